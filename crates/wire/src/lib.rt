@@ -1,7 +1,7 @@
 // Numbers as bytes, low byte first, and copying. Every function answers for every input.
 ghost use Prim.Native.Nat.{_+_, _*_};
 ghost use mathlib.Core.Path.{_≡_};
-ghost use lib.ListN.{getD};
+ghost use lib.ListN.{length, getD};
 ghost use Rattle.wire.specs.Number.{leBytes, numberAt};
 ghost use Rattle.wire.specs.Area.{putAt};
 
@@ -40,7 +40,7 @@ pub fn join64(low: u32, high: u32) -> u64
 pub fn bytes16(x: u16) -> [u8; 2]
     ensures { λ r. ⌜ r ≡ leBytes 2 x ⌝ }
 {
-    [(x % 256) as u8, (x / 256) as u8]
+    [(x % 256) as u8, (x / 256 % 256) as u8]
 }
 
 pub fn bytes32(x: u32) -> [u8; 4]
@@ -49,8 +49,8 @@ pub fn bytes32(x: u32) -> [u8; 4]
     [
         (x % 256) as u8,
         (x / 256 % 256) as u8,
-        (x / 65536 % 256) as u8,
-        (x / 16777216) as u8,
+        (x / 256 / 256 % 256) as u8,
+        (x / 256 / 256 / 256 % 256) as u8,
     ]
 }
 
@@ -60,11 +60,94 @@ pub fn bytes64(x: u64) -> [u8; 8]
     [
         (x % 256) as u8,
         (x / 256 % 256) as u8,
-        (x / 65536 % 256) as u8,
-        (x / 16777216 % 256) as u8,
-        (x / 4294967296 % 256) as u8,
-        (x / 1099511627776 % 256) as u8,
-        (x / 281474976710656 % 256) as u8,
-        (x / 72057594037927936) as u8,
+        (x / 256 / 256 % 256) as u8,
+        (x / 256 / 256 / 256 % 256) as u8,
+        (x / 256 / 256 / 256 / 256 % 256) as u8,
+        (x / 256 / 256 / 256 / 256 / 256 % 256) as u8,
+        (x / 256 / 256 / 256 / 256 / 256 / 256 % 256) as u8,
+        (x / 256 / 256 / 256 / 256 / 256 / 256 / 256 % 256) as u8,
     ]
+}
+
+// The number of two bytes at an offset; bytes past the end count as zeros.
+pub fn u16_at(s: &[u8], at: usize) -> u16
+    ensures { λ r. ⌜ r ≡ numberAt 2 (now (s .entry)) at ⌝ }
+{
+    if s.len() <= at {
+        return 0;
+    }
+    join16(s[at], byte_at(s, at + 1))
+}
+
+// The same of four bytes: one test where all of them are there.
+pub fn u32_at(s: &[u8], at: usize) -> u32
+    ensures { λ r. ⌜ r ≡ numberAt 4 (now (s .entry)) at ⌝ }
+{
+    if s.len() <= at {
+        return 0;
+    }
+    if 4 <= s.len() - at {
+        return join32(s[at], s[at + 1], s[at + 2], s[at + 3]);
+    }
+    join32(s[at], byte_at(s, at + 1), byte_at(s, at + 2), 0)
+}
+
+// The same of eight bytes.
+pub fn u64_at(s: &[u8], at: usize) -> u64
+    ensures { λ r. ⌜ r ≡ numberAt 8 (now (s .entry)) at ⌝ }
+{
+    if s.len() <= at {
+        return 0;
+    }
+    if s.len() - at <= 4 {
+        return u32_at(s, at) as u64;
+    }
+    join64(u32_at(s, at), u32_at(s, at + 4))
+}
+
+// `src` from an offset on, where all of it fits; else nothing changes.
+pub fn copy_at(dst: &mut [u8], at: usize, src: &[u8])
+    ensures { λ _. ⌜ now (dst .exit) ≡ putAt (now (dst .entry)) at (now (src .entry)) ⌝ }
+{
+    if dst.len() < at {
+        return;
+    }
+    if dst.len() - at < src.len() {
+        return;
+    }
+    copy(&mut dst[at..at + src.len()], src);
+}
+
+// Copies `src` over a buffer of its length.
+fn copy(dst: &mut [u8], src: &[u8])
+    requires { ⌜ length (now dst) ≡ length (now src) ⌝ }
+    ensures { λ _. ⌜ now (dst .exit) ≡ now (src .entry) ⌝ }
+{
+    let mut i = 0;
+    while i < src.len() {
+        dst[i] = src[i];
+        i += 1;
+    }
+}
+
+// A number as two, four or eight bytes from an offset on, where all of them fit; else nothing changes.
+pub fn put_u16(dst: &mut [u8], at: usize, x: u16)
+    ensures { λ _. ⌜ now (dst .exit) ≡ putAt (now (dst .entry)) at (leBytes 2 x) ⌝ }
+{
+    let b = bytes16(x);
+    copy_at(dst, at, &b);
+}
+
+pub fn put_u32(dst: &mut [u8], at: usize, x: u32)
+    ensures { λ _. ⌜ now (dst .exit) ≡ putAt (now (dst .entry)) at (leBytes 4 x) ⌝ }
+{
+    let b = bytes32(x);
+    copy_at(dst, at, &b);
+}
+
+pub fn put_u64(dst: &mut [u8], at: usize, x: u64)
+    ensures { λ _. ⌜ now (dst .exit) ≡ putAt (now (dst .entry)) at (leBytes 8 x) ⌝ }
+{
+    let b = bytes64(x);
+    copy_at(dst, at, &b);
 }
