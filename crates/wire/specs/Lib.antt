@@ -1,3 +1,4 @@
 pub mod Number
 pub mod Area
 pub mod Every
+pub mod Zero

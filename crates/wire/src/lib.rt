@@ -4,6 +4,7 @@ ghost use mathlib.Core.Path.{_≡_};
 ghost use lib.ListN.{length, getD};
 ghost use Rattle.wire.specs.Number.{leBytes, numberAt};
 ghost use Rattle.wire.specs.Area.{putAt};
+ghost use Rattle.wire.specs.Zero.{hasZero};
 
 // The byte at an offset, 0 past the end.
 pub fn byte_at(s: &[u8], at: usize) -> u8
@@ -103,6 +104,19 @@ pub fn u64_at(s: &[u8], at: usize) -> u64
         return u32_at(s, at) as u64;
     }
     join64(u32_at(s, at), u32_at(s, at + 4))
+}
+
+// Is one of the bytes 00. Every byte is looked at, so that the loop has one exit and can run on many bytes at once.
+pub fn has_zero(s: &[u8]) -> bool
+    ensures { λ r. ⌜ r ≡ hasZero (now (s .entry)) ⌝ }
+{
+    let mut found = false;
+    let mut i = 0;
+    while i < s.len() {
+        found = found | (s[i] == 0);
+        i += 1;
+    }
+    found
 }
 
 // `src` from an offset on, where all of it fits; else nothing changes.
