@@ -1,0 +1,143 @@
+//! Compares the product with the second reader on seeded inputs: each answer, and
+//! every byte of every lent buffer.
+//!
+//! Sections of archive calls are compiled in by the features of the same names; the
+//! programs' sections are always there.
+
+mod crash;
+#[cfg(any(feature = "packet", feature = "list", feature = "stream"))]
+mod lent;
+mod options;
+#[cfg(feature = "packet")]
+mod packet;
+mod report;
+
+use options::Options;
+use report::{Difference, Section};
+use second_reader::random::Random;
+use std::process::ExitCode;
+use std::time::{Duration, Instant};
+
+/// The sections that are compiled in, each with its part of a thousand cases. The
+/// programs cost one process for each case.
+fn sections() -> Vec<(Section, u64)> {
+    vec![
+        #[cfg(feature = "packet")]
+        (packet::SECTION, 400),
+    ]
+}
+
+fn main() -> ExitCode {
+    let options = match options::parse(std::env::args().skip(1)) {
+        Ok(options) => options,
+        Err(message) => {
+            eprintln!("differential: {message}\n{}", options::USAGE);
+            return ExitCode::from(2);
+        }
+    };
+    match chosen(&options) {
+        Ok(sections) => compare(&options, &sections),
+        Err(message) => {
+            eprintln!("differential: {message}");
+            ExitCode::from(2)
+        }
+    }
+}
+
+/// The sections to run: those named, or all that are compiled in.
+fn chosen(options: &Options) -> Result<Vec<(Section, u64)>, String> {
+    let present = sections();
+    let Some(names) = &options.only else { return Ok(present) };
+    let mut found = Vec::new();
+    for name in names {
+        match present.iter().find(|(section, _)| section.name == name) {
+            Some(&section) => found.push(section),
+            None => return Err(format!("section {name} is not compiled in")),
+        }
+    }
+    Ok(found)
+}
+
+fn compare(options: &Options, sections: &[(Section, u64)]) -> ExitCode {
+    println!("differential: seed {}", options.seed);
+    crash::watch(options.seed);
+    let outcome = match options.seconds {
+        Some(seconds) => for_a_time(options, sections, Duration::from_secs(seconds)),
+        None => counted(options, sections),
+    };
+    match outcome {
+        Ok(summary) => {
+            println!("differential: seed {}: {summary}, 0 differences", options.seed);
+            ExitCode::SUCCESS
+        }
+        Err((name, number, difference)) => {
+            report::print(options, name, number, &difference);
+            ExitCode::FAILURE
+        }
+    }
+}
+
+type Failure = (&'static str, Option<u64>, Difference);
+
+/// Every enumerated case, then the number of random cases asked for.
+fn counted(options: &Options, sections: &[(Section, u64)]) -> Result<String, Failure> {
+    let parts: u64 = sections.iter().map(|(_, part)| part).sum();
+    let mut summary = Vec::new();
+    for (section, part) in sections {
+        let started = Instant::now();
+        crash::enter(section.name, None);
+        let mut enumerated = 0;
+        if options.first == 0 {
+            enumerated = (section.enumerated)().map_err(|found| (section.name, None, found))?;
+        }
+        let cases = (options.cases * part).div_ceil(parts);
+        let mut checks = enumerated;
+        for number in options.first..options.first + cases {
+            checks += one(options, section, number)?;
+            if (number + 1) % section.progress == 0 {
+                println!("{}: {} cases", section.name, number + 1 - options.first);
+            }
+        }
+        let seconds = started.elapsed().as_secs_f64();
+        println!(
+            "{}: {enumerated} enumerated and {cases} random cases, {checks} checks, {seconds:.1} s",
+            section.name
+        );
+        summary.push(format!("{} {}", section.name, enumerated + cases));
+    }
+    Ok(format!("cases {}", summary.join(" ")))
+}
+
+/// Random cases of all sections in turn until the time has passed.
+fn for_a_time(
+    options: &Options,
+    sections: &[(Section, u64)],
+    time: Duration,
+) -> Result<String, Failure> {
+    let started = Instant::now();
+    let mut next = options.first;
+    let mut told = 0;
+    let mut cases = 0;
+    while started.elapsed() < time {
+        for (section, part) in sections {
+            for number in (next * part)..((next + 1) * part) {
+                one(options, section, number)?;
+                cases += 1;
+            }
+        }
+        next += 1;
+        let minute = started.elapsed().as_secs() / 60;
+        if minute != told {
+            told = minute;
+            println!("{minute} min: {cases} cases");
+        }
+    }
+    Ok(format!("{cases} cases in {:.0} s", started.elapsed().as_secs_f64()))
+}
+
+/// One random case, which depends on seed, section and number alone.
+fn one(options: &Options, section: &Section, number: u64) -> Result<u64, Failure> {
+    crash::enter(section.name, Some(number));
+    let mut random = Random::for_case(options.seed, section.name, number);
+    (section.random)(&mut random).map_err(|found| (section.name, Some(number), found))
+}

@@ -1,0 +1,13 @@
+//! Packets, lists and the hub as document 01 and the readings of its open points
+//! describe them, written without looking at the product, to compare it with.
+//!
+//! Every call judges its whole input first and then fills the lent buffers, so an
+//! error leaves them as they were. No call allocates, apart from those that answer
+//! a program's output as text.
+
+pub mod error;
+pub mod generate;
+pub mod packet;
+pub mod random;
+
+pub use error::Error;
