@@ -1,0 +1,32 @@
+-- What the catalogue says of a device type and of its parameters ("each type is in the catalogue"; "a readable parameter of that kind").
+use Prim.Native.Nat.{ℕ, zero, suc, _+_}
+use mathlib.Core.Bool.{true, false, cond}
+use mathlib.Core.List.{List}
+use lib.Dec.{ltb, eqb}
+use Rattle.catalogue.specs.Format.{typeCount, typeNumber, parameterCount, parametersBefore, parameterByte, kindInt, described}
+use Rattle.catalogue.specs.declared.Device.{Device}
+use Rattle.catalogue.specs.declared.Parameter.{Parameter}
+
+-- a number that is no type's: no parameters
+abbrev pub noDevice : Device
+noDevice = record { known = false; first = 0; parameters = 0 }
+
+-- the device type at index i
+abbrev pub deviceAt : List ℕ → ℕ → Device
+deviceAt s i = record { known = true; first = parametersBefore s i; parameters = parameterCount s i }
+
+-- the first of the n types from index i on that has the number
+unfoldable pub deviceFrom : ℕ → List ℕ → ℕ → ℕ → Device
+deviceFrom zero s number i = noDevice
+deviceFrom (suc n) s number i = cond (eqb (typeNumber s i) number) (deviceAt s i) (deviceFrom n s number (i + 1))
+
+abbrev pub deviceOf : List ℕ → ℕ → Device
+deviceOf s number = deviceFrom (typeCount s) s number 0
+
+abbrev pub noParameter : Parameter
+noParameter = record { known = false; kind = kindInt; readable = false; writable = false }
+
+-- parameter `index` of a device type; a type's parameters follow those of the types before it
+unfoldable pub parameterOf : List ℕ → ℕ → ℕ → Parameter
+parameterOf s number index =
+    cond (ltb index (deviceOf s number .parameters)) (described (parameterByte s (deviceOf s number .first + index))) noParameter
