@@ -1,0 +1,43 @@
+-- The payload lengths of the type table: a single length as a range, and the greatest of all.
+use Prim.Native.Nat.{ℕ, _≤_, _<_}
+use mathlib.Core.Path.{_≡_, refl, sym, _∙_}
+use mathlib.Core.Bool.{Bool, true, false, cond, _&&_}
+use mathlib.Core.List.{List, [], _∷_}
+use native.Mathlib.Omega.{arith}
+use lib.Dec.{eqb, leb}
+use borrow.Author.Tests.{eq-eqb, ne-eqb, le-leb, lt-leb, eqb-true, eqb-false, leb-true}
+use Rattle.packet.specs.TypeTable.{Row, row, typeTable, allows, allowed}
+use Rattle.packet.proofs.CobsSteps.{clash}
+
+-- equal to k is from k to k
+pub exactly : (n k : ℕ) → eqb n k ≡ (leb k n && leb n k)
+exactly n k = by (leb k n) (leb n k) refl refl
+  where
+    by : (a b : Bool) → leb k n ≡ a → leb n k ≡ b → eqb n k ≡ (a && b)
+    by true true p q = eq-eqb n k (omega (arith, leb-true k n p, leb-true n k q))
+    by true false p q = ne-eqb n k (λ e. clash (sym (le-leb n k (omega arith)) ∙ q))
+    by false b p q = ne-eqb n k (λ e. clash (sym (le-leb k n (omega arith)) ∙ p))
+
+second : (a b : Bool) → (a && b) ≡ true → b ≡ true
+second true b h = h
+second false b h = clash (sym h)
+
+either : {P : Type 0} (b x y : Bool) → (x ≡ true → P) → (y ≡ true → P) → cond b x y ≡ true → P
+either true x y f g h = f h
+either false x y f g h = g h
+
+-- every row of a table stays within a bound
+unfoldable within : ℕ → List Row → Type 0
+within top [] = Unit {0}
+within top (row number least most ∷ rows) = (most ≤ top) × within top rows
+
+allows-top : (top : ℕ) (rows : List Row) (kind n : ℕ) → within top rows → allows rows kind n ≡ true → n ≤ top
+unfolding allows within
+allows-top top [] kind n w h = clash (sym h)
+allows-top top (row number least most ∷ rows) kind n w h =
+    either (eqb kind number) _ _ (λ e. omega (arith, leb-true n most (second (leb least n) (leb n most) e), w .0)) (allows-top top rows kind n (w .1)) h
+
+-- no type allows more than 251 bytes
+pub allowed-top : (kind n : ℕ) → allowed kind n ≡ true → n ≤ 251
+unfolding allowed within
+allowed-top kind n h = allows-top 251 typeTable kind n (omega arith, (omega arith, (omega arith, (omega arith, (omega arith, tt))))) h

@@ -1,0 +1,5 @@
+pub mod CobsSteps
+pub mod Sums
+pub mod Lengths
+pub mod FrontTests
+pub mod DecodeStages

@@ -1,0 +1,5 @@
+pub mod Cobs
+pub mod TypeTable
+pub mod Message
+pub mod Packet
+pub mod Encode

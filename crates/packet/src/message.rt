@@ -1,0 +1,56 @@
+// The message of a packet: type, payload length, payload, checksum.
+use super::ACK;
+use super::DEVICE_DATA;
+use super::DEVICE_WRITE;
+use super::LOG;
+use super::PING;
+ghost use Prim.Native.Nat.{ℕ, _+_, _-_, _≤_, _<_};
+ghost use mathlib.Core.Path.{_≡_};
+ghost use lib.ListN.{length};
+ghost use Rattle.packet.specs.TypeTable.{allowed};
+ghost use Rattle.packet.specs.Message.{xorFrom, messageError};
+
+// The exclusive or of `start` and all bytes.
+pub fn xor_from(start: u8, bytes: &[u8]) -> u8
+    ensures { λ r. ⌜ r ≡ xorFrom start (now (bytes .entry)) ⌝ }
+{
+    let mut x = start;
+    let mut i = 0;
+    while i < bytes.len() {
+        x = x ^ bytes[i];
+        i += 1;
+    }
+    x
+}
+
+// Is the type known, and does it allow a payload of n bytes?
+pub fn is_allowed(kind: u8, n: usize) -> bool
+    ensures { λ r. ⌜ r ≡ allowed kind n ⌝ }
+{
+    match kind {
+        PING => n == 0,
+        ACK => n == 10,
+        DEVICE_WRITE => 4 <= n && n <= 132,
+        DEVICE_DATA => 4 <= n && n <= 132,
+        LOG => n <= 251,
+        _ => false,
+    }
+}
+
+// The error of a message, 0 where there is none.
+pub fn message_error(m: &[u8]) -> u8
+    requires { ⌜ 3 ≤ length (now m) ⌝ }
+    ensures { λ r. ⌜ r ≡ messageError (now (m .entry)) ⌝ }
+{
+    let n = m.len();
+    if m[1] as usize != n - 3 {
+        return 6;
+    }
+    if xor_from(0, &m[..n - 1]) != m[n - 1] {
+        return 7;
+    }
+    if !is_allowed(m[0], n - 3) {
+        return 8;
+    }
+    0
+}
