@@ -1,22 +1,21 @@
 -- The bytes of a legal list are read as that list, whatever follows them.
-use Prim.Native.Nat.{ℕ, zero, suc, _+_, _-_, _*_, _^_, _≤_, _<_}
+use Prim.Native.Nat.{ℕ, zero, suc, _+_, _-_, _^_, _≤_, _<_}
 use mathlib.Core.Path.{_≡_, refl, sym, ap, _∙_}
-use mathlib.Core.Bool.{Bool, true, false, not, cond, _&&_, _||_}
-use mathlib.Core.List.{List, [], _∷_, _++_, append-assoc, append-nil}
+use mathlib.Core.Bool.{true, false}
+use mathlib.Core.List.{List, [], _∷_, _++_, append-assoc}
 use native.Mathlib.Omega.{arith}
 use native.Mathlib.Nat.{add-zero}
-use lib.Dec.{eqb, ltb, leb}
-use lib.ListN.{length, take, drop, getD, length-append}
+use lib.Dec.{eqb}
+use lib.ListN.{length, take, drop, length-append}
 use lib.Seq.{take-at, getD-at}
 use borrow.Author.Tests.{eq-eqb, ne-eqb, lt-leb}
 use Rattle.wire.specs.Zero.{hasZero}
 use Rattle.list.specs.declared.Kind.{Kind}
-use Rattle.list.specs.declared.KindFound.the-variants.{Is, Unknown}
 use Rattle.list.specs.Kind.{codeOf, kindOf, listCode, typedCode}
 use Rattle.list.specs.Tree.{Value, Elements, int, vocab, float, str, blob, none, value, list, kind, count}
-use Rattle.list.specs.Bytes.{number, stringBytes, blobBytes, valueBytes, elementCode, elementBytes, listCodeOf, listBytes}
+use Rattle.list.specs.Bytes.{number, stringBytes, blobBytes, valueBytes, elementBytes, listCodeOf, listBytes}
 use Rattle.list.specs.Legal.{NoZero, LegalValue, LegalElements, Legal}
-use Rattle.list.specs.Parse.{Parsed, good, bad, word, closed, itemFault, stringAt, blobAt, valueAt, typedAt, isListCode, codedAt, mixedAt, elementsAt, listAt, parse}
+use Rattle.list.specs.Parse.{Parsed, good, closed, itemFault, stringAt, blobAt, valueAt, typedAt, codedAt, mixedAt, elementsAt, listAt, parse}
 use Rattle.list.proofs.Codes.{kind-of-code, kind-of-typed, kind-of-list, kind-no-list, typed-no-list, code-low, code-is, code-good, AllKind, CodeIs, mixed, typed}
 use Rattle.list.proofs.Items.{Stands, stands-front, stands-length, stands-behind, stands-take, word-of, fault-none}
 

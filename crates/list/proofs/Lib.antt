@@ -1,3 +1,4 @@
 pub mod Codes
 pub mod Items
 pub mod Complete
+pub mod Sound
