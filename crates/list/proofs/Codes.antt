@@ -1,5 +1,5 @@
 -- Laws of codes: a kind and its code determine each other, and the code of a list tells what its elements are.
-use Prim.Native.Nat.{_-_, _^_, _<_}
+use Prim.Native.Nat.{ℕ, _-_, _^_, _<_}
 use mathlib.Core.Path.{_≡_, refl, sym, ap, _∙_}
 use mathlib.Core.Bool.{Bool, true, false, cond}
 use mathlib.Core.Logic.{_⊎_, inl, inr, ⊎-elim}
@@ -21,6 +21,22 @@ kind-of-code Float = refl
 kind-of-code Str = refl
 kind-of-code Blob = refl
 kind-of-code Vocab = refl
+
+pub code-of-kind : (code : ℕ) (k : Kind) → kindOf code ≡ Is k → code ≡ codeOf k
+unfolding kindOf
+code-of-kind code k = go (eqb code 1) refl (eqb code 10) refl (eqb code 4) refl (eqb code 12) refl (eqb code 9) refl
+  where
+    is : (n : ℕ) (l : Kind) → codeOf l ≡ n → eqb code n ≡ true → Is l ≡ Is k → code ≡ codeOf k
+    is n l c e h = let q : l ≡ k = cc in eqb-true code n e ∙ sym c ∙ ap codeOf q
+
+    go : (a : Bool) → eqb code 1 ≡ a → (b : Bool) → eqb code 10 ≡ b → (c : Bool) → eqb code 4 ≡ c → (d : Bool) → eqb code 12 ≡ d → (e : Bool) → eqb code 9 ≡ e
+        → cond a (Is Int) (cond b (Is Float) (cond c (Is Str) (cond d (Is Blob) (cond e (Is Vocab) Unknown)))) ≡ Is k → code ≡ codeOf k
+    go true p b q c r d u e v h = is 1 Int refl p h
+    go false p true q c r d u e v h = is 10 Float refl q h
+    go false p false q true r d u e v h = is 4 Str refl r h
+    go false p false q false r true u e v h = is 12 Blob refl u h
+    go false p false q false r false u true v h = is 9 Vocab refl v h
+    go false p false q false r false u false v h = absurd (let z : _≡_ {A = ℕ} 0 1 = cc in omega arith)
 
 pub kind-of-typed : (k : Kind) → kindOf (typedCode k - listCode) ≡ Is k
 unfolding kindOf
