@@ -1,16 +1,28 @@
 -- Laws of items at an offset: what stands there, and when an item has no fault.
-use Prim.Native.Nat.{ℕ, _+_, _^_, _≤_, _<_}
+use Prim.Native.Nat.{ℕ, zero, suc, _+_, _^_, _≤_, _<_}
 use mathlib.Core.Path.{_≡_, refl, sym, ap, _∙_}
 use mathlib.Core.Bool.{Bool, true, false, cond}
-use mathlib.Core.List.{List, _++_}
+use mathlib.Core.List.{List, [], _∷_, _++_}
 use native.Mathlib.Omega.{arith}
 use lib.Dec.{ltb}
 use lib.ListN.{length, take, drop, length-append, length-drop}
 use lib.Seq.{drop-drop, drop-at, take-at}
 use borrow.Author.Tests.{le-ltb, ltb-false}
+use Rattle.wire.specs.Number.{Bytes}
 use Rattle.wire.proofs.Numbers.{value-of-bytes}
 use Rattle.list.specs.Bytes.{number}
 use Rattle.list.specs.Parse.{itemFault, word}
+
+-- bytes stay bytes in a part
+pub bytes-take : (n : ℕ) (s : List ℕ) → Bytes s → Bytes (take n s)
+bytes-take zero s b = tt
+bytes-take (suc n) [] b = tt
+bytes-take (suc n) (x ∷ s) b = (b .0, bytes-take n s (b .1))
+
+pub bytes-drop : (n : ℕ) (s : List ℕ) → Bytes s → Bytes (drop n s)
+bytes-drop zero s b = b
+bytes-drop (suc n) [] b = tt
+bytes-drop (suc n) (x ∷ s) b = bytes-drop n s (b .1)
 
 -- the bytes of s from `at` on are `rest`
 pub record Stands (s : List ℕ) (at : ℕ) (rest : List ℕ) : Type 0 where

@@ -24,18 +24,7 @@ use Rattle.list.specs.Bytes.{number, stringBytes, valueBytes, elementCod
 use Rattle.list.specs.Legal.{NoZero, LegalValue, LegalElements, Legal}
 use Rattle.list.specs.Parse.{Parsed, good, bad, andThen, afterItem, word, negative, closed, itemFault, stringAt, blobAt, valueAt, typedAt, isListCode, codedValue, codedAt, mixedAt, elementsAt, listAt, parse}
 use Rattle.list.proofs.Codes.{code-of-kind}
-use Rattle.list.proofs.Items.{fault-fits}
-
--- bytes stay bytes in a part
-bytes-take : (n : ℕ) (s : List ℕ) → Bytes s → Bytes (take n s)
-bytes-take zero s b = tt
-bytes-take (suc n) [] b = tt
-bytes-take (suc n) (x ∷ s) b = (b .0, bytes-take n s (b .1))
-
-bytes-drop : (n : ℕ) (s : List ℕ) → Bytes s → Bytes (drop n s)
-bytes-drop zero s b = b
-bytes-drop (suc n) [] b = tt
-bytes-drop (suc n) (x ∷ s) b = bytes-drop n s (b .1)
+use Rattle.list.proofs.Items.{bytes-take, bytes-drop, fault-fits}
 
 -- a closed run is a string's bytes
 zero-none : (bs : List ℕ) → hasZero bs ≡ false → NoZero bs
