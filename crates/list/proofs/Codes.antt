@@ -121,7 +121,7 @@ code-mixed : codeFor listCode ≡ listCode
 unfolding codeFor
 code-mixed = refl
 
-code-none : listCodeOf none ≡ listCode
+pub code-none : listCodeOf none ≡ listCode
 unfolding codeFor
 code-none = refl
 
@@ -145,7 +145,7 @@ pub code-all : (k : Kind) (v : _) (es : Elements) → AllKind k (value v es) →
 code-all k v es a = rw (a .0) (ap codeFor (common-all k es (a .1)) ∙ code-for k)
 
 -- the code of a list is a list code, and a 32-bit number
-typed-is-code : (k : Kind) → isListCode (typedCode k) ≡ true
+pub typed-is-code : (k : Kind) → isListCode (typedCode k) ≡ true
 unfolding isListCode kindOf
 typed-is-code Int = refl
 typed-is-code Float = refl
@@ -153,7 +153,7 @@ typed-is-code Str = refl
 typed-is-code Blob = refl
 typed-is-code Vocab = refl
 
-mixed-is-code : isListCode listCode ≡ true
+pub mixed-is-code : isListCode listCode ≡ true
 unfolding isListCode
 mixed-is-code = refl
 

@@ -1,7 +1,7 @@
 -- The bytes of a legal list are read as that list, whatever follows them.
 use Prim.Native.Nat.{ℕ, zero, suc, _+_, _-_, _^_, _≤_, _<_}
 use mathlib.Core.Path.{_≡_, refl, sym, ap, _∙_}
-use mathlib.Core.Bool.{true, false}
+use mathlib.Core.Bool.{true, false, cond}
 use mathlib.Core.List.{List, [], _∷_, _++_, append-assoc}
 use native.Mathlib.Omega.{arith}
 use native.Mathlib.Nat.{add-zero}
@@ -15,8 +15,9 @@ use Rattle.list.specs.Kind.{codeOf, kindOf, listCode, typedCode}
 use Rattle.list.specs.Tree.{Value, Elements, int, vocab, float, str, blob, none, value, list, kind, count}
 use Rattle.list.specs.Bytes.{number, stringBytes, blobBytes, valueBytes, elementBytes, listCodeOf, listBytes}
 use Rattle.list.specs.Legal.{NoZero, LegalValue, LegalElements, Legal}
-use Rattle.list.specs.Parse.{Parsed, good, closed, itemFault, stringAt, blobAt, valueAt, typedAt, codedAt, mixedAt, elementsAt, listAt, parse}
+use Rattle.list.specs.Parse.{Parsed, good, bad, closed, isListCode, itemFault, stringAt, blobAt, valueAt, typedAt, codedAt, mixedAt, elementsAt, listAt, parse}
 use Rattle.list.proofs.Codes.{kind-of-code, kind-of-typed, kind-of-list, kind-no-list, typed-no-list, code-low, code-is, code-good, AllKind, CodeIs, mixed, typed}
+use Rattle.list.proofs.RowBound.{value-size}
 use Rattle.list.proofs.Items.{Stands, stands-front, stands-length, stands-behind, stands-take, word-of, fault-none}
 
 -- a string's run is closed by its zero
@@ -32,17 +33,10 @@ closed-string bs h =
     rw (e, take-at bs (0 ∷ []) (length bs) refl, no-zero bs h, getD-at bs 0 [] 1 (length bs) refl)
 
 -- every element has a byte, so a count is no more than the bytes
-value-some : (v : Value) → 4 ≤ length (valueBytes v)
-value-some (int n) = omega arith
-value-some (vocab n) = omega arith
-value-some (float low high) = omega arith
-value-some (str bs) = omega arith
-value-some (blob bs) = omega arith
-
 count-le : (code : ℕ) (es : Elements) → count es ≤ length (elementBytes code es)
 count-le code none = omega arith
 count-le code (value v es) =
-    simp length-append (omega (arith, count-le code es, value-some v))
+    simp length-append (omega (arith, count-le code es, value-size v))
 count-le code (list inner es) =
     simp length-append (omega (arith, count-le code es))
 
@@ -150,27 +144,25 @@ module _ (limit : ℕ) (small : limit < 2 ^ 31) (s : List ℕ) where
         r,
       )
 
-  -- a list, where its elements are read as such
-  body-ok : (d : ℕ) (es : Elements) (at : ℕ) (rest : List ℕ) → Stands s at (listBytes es ++ rest) → at + length (listBytes es) ≤ limit
-      → (Stands s (at + 8) (elementBytes (listCodeOf es) es ++ rest)
-      → elementsAt (listAt d limit s) limit s (kindOf (listCodeOf es - listCode)) (count es) (at + 8) ≡ good es (at + 8 + length (elementBytes (listCodeOf es) es)))
-      → listAt (suc d) limit s at (listCodeOf es) ≡ good es (at + length (listBytes es))
-  unfolding listAt listBytes
-  body-ok d es at rest h f go =
-      let c : ℕ = listCodeOf es in
-      let x : List ℕ = elementBytes c es ++ rest in
-      let h₄ : Stands s (at + 4) (number (count es) ++ x) = stands-behind s at (number c) (number (count es) ++ x) h in
+  -- elements behind any code and their count: a list if the code is theirs
+  pub body-ok : (d code : ℕ) (es : Elements) (at : ℕ) (rest : List ℕ)
+      → Stands s at (number code ++ (number (count es) ++ (elementBytes code es ++ rest))) → at + (8 + length (elementBytes code es)) ≤ limit
+      → (Stands s (at + 8) (elementBytes code es ++ rest)
+      → elementsAt (listAt d limit s) limit s (kindOf (code - listCode)) (count es) (at + 8) ≡ good es (at + 8 + length (elementBytes code es)))
+      → listAt (suc d) limit s at code ≡ cond (eqb code (listCodeOf es)) (good es (at + 8 + length (elementBytes code es))) (bad 24 at)
+  unfolding listAt
+  body-ok d code es at rest h f go =
+      let x : List ℕ = elementBytes code es ++ rest in
+      let h₄ : Stands s (at + 4) (number (count es) ++ x) = stands-behind s at (number code) (number (count es) ++ x) h in
       let e₈ : at + 4 + 4 ≡ at + 8 = omega arith in
       let h₈ : Stands s (at + 8) x = rw e₈ at (stands-behind s (at + 4) (number (count es)) x h₄) in
-      let few : count es < 2147483648 = omega (arith, count-le c es) in
+      let few : count es < 2147483648 = omega (arith, count-le code es) in
       rw (
         item (at + 4) (number (count es)) x h₄ (omega arith),
         word-of s (at + 4) (count es) x (omega arith) h₄,
         lt-leb 2147483648 (count es) few,
         go h₈,
-        eq-eqb c c refl,
       )
-      (ap (good es) (omega arith))
 
   -- what is to be shown of elements that follow their codes
   abbrev ReadMixed : ℕ → Elements → Type 0
@@ -182,14 +174,15 @@ module _ (limit : ℕ) (small : limit < 2 ^ 31) (s : List ℕ) where
   list-ok : (d : ℕ) (es : Elements) (at : ℕ) (rest : List ℕ) → LegalElements d es → ReadMixed d es
       → Stands s at (listBytes es ++ rest) → at + length (listBytes es) ≤ limit → listAt (suc d) limit s at (listCodeOf es) ≡ good es (at + length (listBytes es))
   unfolding listBytes
-  list-ok d es at rest l m h f = body-ok d es at rest h f (λ h₈. go (code-is es) h₈ (omega arith))
+  list-ok d es at rest l m h f =
+      body-ok d (listCodeOf es) es at rest h (omega arith) (λ h₈. go (code-is es) h₈ (omega arith)) ∙ rw (eq-eqb (listCodeOf es) (listCodeOf es) refl) (ap (good es) (omega arith))
     where
       go : CodeIs es → Stands s (at + 8) (elementBytes (listCodeOf es) es ++ rest) → at + 8 + length (elementBytes (listCodeOf es) es) ≤ limit
           → elementsAt (listAt d limit s) limit s (kindOf (listCodeOf es - listCode)) (count es) (at + 8) ≡ good es (at + 8 + length (elementBytes (listCodeOf es) es))
       go (mixed e) h₈ f₈ = rw (e, kind-of-list) (m (at + 8) rest (rw e at h₈) (rw e at f₈))
       go (typed k e a) h₈ f₈ = rw (e, kind-of-typed k) (typed-ok (typedCode k) k es d (at + 8) rest (typed-no-list k) a l (rw e at h₈) (rw e at f₈))
 
-  mixed-ok : (es : Elements) (d : ℕ) → LegalElements d es → ReadMixed d es
+  pub mixed-ok : (es : Elements) (d : ℕ) → LegalElements d es → ReadMixed d es
   unfolding mixedAt listBytes
   mixed-ok none d l at rest h f = rw add-zero
   mixed-ok (value v es) d l at rest h f =
@@ -215,17 +208,18 @@ module _ (limit : ℕ) (small : limit < 2 ^ 31) (s : List ℕ) where
       )
       (ap (good (list inner es)) (omega arith))
 
+  -- a list code at the front
+  pub front-ok : (code : ℕ) (rest : List ℕ) → isListCode code ≡ true → code < 2 ^ 32 → Stands s 0 (number code ++ rest) → 4 ≤ limit
+      → parse limit s ≡ listAt 8 limit s 0 code
+  unfolding parse
+  front-ok code rest c small-code h f = rw (item 0 (number code) rest h f, word-of s 0 code rest small-code h, c)
+
 -- LEGAL LISTS ARE ACCEPTED
 pub complete : (limit : ℕ) (es : Elements) (rest : List ℕ) → limit < 2 ^ 31 → Legal limit es → parse limit (listBytes es ++ rest) ≡ good es (length (listBytes es))
-unfolding parse listBytes
+unfolding listBytes
 complete limit es rest small l =
     let s : List ℕ = listBytes es ++ rest in
-    let c : List ℕ = number (listCodeOf es) in
-    let x : List ℕ = number (count es) ++ (elementBytes (listCodeOf es) es ++ rest) in
-    rw (
-      item limit small s 0 c x (stands-front s) (omega arith),
-      word-of s 0 (listCodeOf es) x (code-good es .1) (stands-front s),
-      code-good es .0,
-      list-ok limit small s 7 es 0 rest (l .0) (mixed-ok limit small s es 7 (l .0)) (stands-front s) (omega arith),
-    )
-    (ap (good es) (omega arith))
+    let c : ℕ = listCodeOf es in
+    front-ok limit small s c (number (count es) ++ (elementBytes c es ++ rest)) (code-good es .0) (code-good es .1) (stands-front s) (omega arith)
+    ∙ list-ok limit small s 7 es 0 rest (l .0) (mixed-ok limit small s es 7 (l .0)) (stands-front s) (omega arith)
+    ∙ ap (good es) (omega arith)

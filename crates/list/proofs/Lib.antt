@@ -1,5 +1,9 @@
 pub mod Codes
 pub mod Items
+pub mod RowBound
 pub mod Complete
 pub mod Sound
 pub mod Same
+pub mod OneImage
+pub mod TypedRun
+pub mod Cases
