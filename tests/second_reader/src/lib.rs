@@ -7,7 +7,9 @@
 
 pub mod error;
 pub mod generate;
+pub mod list;
 pub mod packet;
 pub mod random;
+pub mod stream;
 
 pub use error::Error;

@@ -1,7 +1,9 @@
 //! Seeded inputs, legal and damaged. Legal ones are built from their meaning by the
 //! papers' own wording, apart from the readers and writers of this library.
 
+pub mod list;
 pub mod packet;
+pub mod stream;
 
 use crate::random::Random;
 

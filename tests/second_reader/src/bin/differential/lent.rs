@@ -1,6 +1,9 @@
 //! Buffers as a caller lends them: on the heap, exactly as long as they say, so that
 //! a memory checker sees the first byte beyond, and holding a pattern at first.
 
+#[cfg(any(feature = "list", feature = "stream"))]
+pub use for_lists::{list_answer, ListLent};
+
 use crate::report::hex;
 use second_reader::random::Random;
 
@@ -17,7 +20,7 @@ pub fn patterned(length: usize, seed: u64) -> Box<[u8]> {
 }
 
 /// Where two buffers first differ, with the bytes there.
-pub fn first_difference(expected: &[u8], found: &[u8]) -> Option<(usize, String, String)> {
+fn first_difference(expected: &[u8], found: &[u8]) -> Option<(usize, String, String)> {
     let at = expected.iter().zip(found).position(|(left, right)| left != right)?;
     let end = (at + 16).min(expected.len());
     Some((at, hex(&expected[at..end]), hex(&found[at..end])))
@@ -29,6 +32,66 @@ pub fn told(name: &str, expected: &[u8], found: &[u8]) -> (String, String) {
         None => (String::new(), String::new()),
         Some((at, left, right)) => {
             (format!(", {name} from {at}: {left}"), format!(", {name} from {at}: {right}"))
+        }
+    }
+}
+
+#[cfg(any(feature = "list", feature = "stream"))]
+mod for_lists {
+    use super::{patterned, told};
+    use crate::report::{hex, Difference};
+    use archive::ListResult;
+    use second_reader::list::{Decoded, ListError};
+
+    /// The second reader's answer in the form of the C calls for lists.
+    pub fn list_answer(answer: Result<Decoded, ListError>) -> ListResult {
+        match answer {
+            Ok(Decoded { consumed, rows }) => {
+                ListResult { error: 0, consumed: consumed as u64, rows: rows as u64, offset: 0 }
+            }
+            Err(ListError { error, offset }) => {
+                ListResult { error: error.number(), consumed: 0, rows: 0, offset }
+            }
+        }
+    }
+
+    /// The two buffers lent to a call for lists.
+    #[derive(PartialEq)]
+    pub struct ListLent {
+        pub rows: Box<[u8]>,
+        pub store: Box<[u8]>,
+    }
+
+    impl ListLent {
+        pub fn new(rows: usize, store: usize, pattern: u64) -> ListLent {
+            ListLent { rows: patterned(rows, pattern), store: patterned(store, !pattern) }
+        }
+
+        /// The difference between the buffers and answers of the second reader, first,
+        /// and of the product.
+        pub fn difference(
+            &self,
+            bytes: &[u8],
+            pattern: u64,
+            offset: Option<u64>,
+            (expected, found): (ListResult, ListResult),
+            found_lent: &ListLent,
+        ) -> Difference {
+            let (left_rows, right_rows) = told("rows", &self.rows, &found_lent.rows);
+            let (left_store, right_store) = told("store", &self.store, &found_lent.store);
+            let mut case = vec![
+                ("bytes", hex(bytes)),
+                ("rows length", self.rows.len().to_string()),
+                ("store length", self.store.len().to_string()),
+                ("pattern seed", pattern.to_string()),
+            ];
+            case.extend(offset.map(|offset| ("offset", offset.to_string())));
+            Difference {
+                case,
+                input: None,
+                expected: format!("{expected:?}{left_rows}{left_store}"),
+                found: format!("{found:?}{right_rows}{right_store}"),
+            }
         }
     }
 }

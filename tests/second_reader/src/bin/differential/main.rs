@@ -7,10 +7,14 @@
 mod crash;
 #[cfg(any(feature = "packet", feature = "list", feature = "stream"))]
 mod lent;
+#[cfg(feature = "list")]
+mod list;
 mod options;
 #[cfg(feature = "packet")]
 mod packet;
 mod report;
+#[cfg(feature = "stream")]
+mod stream;
 
 use options::Options;
 use report::{Difference, Section};
@@ -24,6 +28,10 @@ fn sections() -> Vec<(Section, u64)> {
     vec![
         #[cfg(feature = "packet")]
         (packet::SECTION, 400),
+        #[cfg(feature = "list")]
+        (list::SECTION, 400),
+        #[cfg(feature = "stream")]
+        (stream::SECTION, 170),
     ]
 }
 
@@ -103,6 +111,7 @@ fn counted(options: &Options, sections: &[(Section, u64)]) -> Result<String, Fai
             "{}: {enumerated} enumerated and {cases} random cases, {checks} checks, {seconds:.1} s",
             section.name
         );
+        println!("{}: {}", section.name, report::answers());
         summary.push(format!("{} {}", section.name, enumerated + cases));
     }
     Ok(format!("cases {}", summary.join(" ")))

@@ -1,7 +1,7 @@
 //! `cinder_packet_decode` against the second reader.
 
 use crate::lent::{exact, patterned, told};
-use crate::report::{hex, Difference, Section};
+use crate::report::{count_answer, hex, Difference, Section};
 use archive::{packet_decode, PacketResult};
 use second_reader::generate;
 use second_reader::packet::{self, PACKET_ROOM};
@@ -24,6 +24,7 @@ fn check(bytes: Vec<u8>, message_length: usize, pattern: u64) -> Result<(), Diff
     let mut found_message = patterned(message_length, pattern);
     let expected = expected_answer(&bytes, &mut expected_message);
     let found = packet_decode(&bytes, &mut found_message);
+    count_answer(expected.error);
     if expected == found && expected_message == found_message {
         return Ok(());
     }

@@ -2,6 +2,7 @@
 
 use crate::options::Options;
 use std::fmt::Write;
+use std::sync::atomic::{AtomicU64, Ordering};
 
 /// One kind of comparison. Both functions answer how many comparisons they made.
 #[derive(Clone, Copy)]
@@ -11,6 +12,25 @@ pub struct Section {
     pub progress: u64,
     pub enumerated: fn() -> Result<u64, Difference>,
     pub random: fn(&mut second_reader::random::Random) -> Result<u64, Difference>,
+}
+
+/// How often each error number, 0 for none, was the answer since the last telling.
+static ANSWERS: [AtomicU64; 32] = [const { AtomicU64::new(0) }; 32];
+
+pub fn count_answer(error: u64) {
+    ANSWERS[error as usize % 32].fetch_add(1, Ordering::Relaxed);
+}
+
+/// The answers met and how often each, so that one can see what the cases reach.
+pub fn answers() -> String {
+    let mut text = String::from("answers");
+    for (error, times) in ANSWERS.iter().enumerate() {
+        let times = times.swap(0, Ordering::Relaxed);
+        if times > 0 {
+            let _ = write!(text, " {error}:{times}");
+        }
+    }
+    text
 }
 
 /// A case on which the two sides differ.

@@ -1,0 +1,89 @@
+#include "list_cases.h"
+
+#include "checks.h"
+
+#include <string.h>
+
+#define REFUSED(error, offset) error, offset, 0, 0
+#define NO_TAIL NULL, {{0}}, NULL
+
+const struct list_case list_cases[] = {
+    /* Bench cases. */
+    {"primes", 0, 0, 40, 9, 10, 0, 0, {257, 8, 2, 3, 5, 7, 11, 13, 17, 19}, NULL,
+     {{256, 8, 0}, {1, 2, 0}, {1, 3, 0}, {1, 5, 0}, {1, 7, 0},
+      {1, 11, 0}, {1, 13, 0}, {1, 17, 0}, {1, 19, 0}}, NULL},
+    {"two lists", 0, 0, 72, 10, 9, 36, 16, {256, 2, 257, 3, 91, 92, 93, 260, 4},
+     "\5\0\0\0this\0\3\0\0\0is\0\2\0\0\0a\0\12\0\0\0good list\0",
+     {{256, 2, 0}, {256, 3, 0}, {1, 91, 0}, {1, 92, 0}, {1, 93, 0},
+      {256, 4, 0}, {4, 0, 4}, {4, 4, 2}, {4, 6, 1}, {4, 7, 9}}, "thisisagood list"},
+    {"empty list", 0, 0, 8, 1, 2, 0, 0, {256, 0}, NULL, {{256, 0, 0}}, NULL},
+    {"typed list of 0", REFUSED(24, 0), 2, 0, 0, {257, 0}, NO_TAIL},
+    {"256 list of one int", REFUSED(24, 0), 4, 0, 0, {256, 1, 1, 5}, NO_TAIL},
+    {"code 512", REFUSED(22, 0), 2, 0, 0, {512, 0}, NO_TAIL},
+    {"eight nested", 0, 0, 64, 8, 16, 0, 0,
+     {256, 1, 256, 1, 256, 1, 256, 1, 256, 1, 256, 1, 256, 1, 256, 0}, NULL,
+     {{256, 1, 0}, {256, 1, 0}, {256, 1, 0}, {256, 1, 0},
+      {256, 1, 0}, {256, 1, 0}, {256, 1, 0}, {256, 0, 0}}, NULL},
+    {"nine nested", REFUSED(27, 64), 18, 0, 0,
+     {256, 1, 256, 1, 256, 1, 256, 1, 256, 1, 256, 1, 256, 1, 256, 1, 256, 0}, NO_TAIL},
+    /* Every kind, later bytes ignored. */
+    {"one of each kind", 0, 0, 58, 6, 13, 11, 5,
+     {256, 5, 1, 0x80000000, 9, 7, 10, 0x89abcdef, 0x01234567, 4, 4, 0x00434241, 12},
+     "\2\0\0\0\0\377\1\1\0\0\0",
+     {{256, 5, 0}, {1, 0x80000000, 0}, {9, 7, 0}, {10, 0x89abcdef, 0x01234567},
+      {4, 0, 3}, {12, 3, 2}}, "ABC\0\377"},
+    {"two typed lists of one int", 0, 0, 32, 5, 8, 0, 0, {256, 2, 257, 1, 5, 257, 1, 5}, NULL,
+     {{256, 2, 0}, {256, 1, 0}, {1, 5, 0}, {256, 1, 0}, {1, 5, 0}}, NULL},
+    {"empty blob", 0, 0, 12, 2, 3, 0, 0, {268, 1, 0}, NULL, {{256, 1, 0}, {12, 0, 0}}, NULL},
+    {"empty string", 0, 0, 13, 2, 3, 2, 0, {260, 1, 1}, "\0\7", {{256, 1, 0}, {4, 0, 0}}, NULL},
+    /* Offsets of faults. */
+    {"no bytes", REFUSED(21, 0), 0, 0, 0, {0}, NO_TAIL},
+    {"three bytes", REFUSED(21, 0), 0, 3, 0, {0}, "\0\1\0", {{0}}, NULL},
+    {"no count", REFUSED(21, 4), 1, 0, 0, {256}, NO_TAIL},
+    {"no element", REFUSED(21, 8), 2, 0, 0, {256, 1}, NO_TAIL},
+    {"count beyond the bytes", REFUSED(21, 8), 2, 0, 0, {257, 0x7fffffff}, NO_TAIL},
+    {"count below 0", REFUSED(23, 4), 2, 0, 0, {256, 0xffffffff}, NO_TAIL},
+    {"typed count below 0", REFUSED(23, 4), 2, 0, 0, {257, 0x80000000}, NO_TAIL},
+    {"second element cut", REFUSED(21, 20), 5, 0, 0, {256, 2, 1, 5, 1}, NO_TAIL},
+    {"two ints in a 256 list", REFUSED(24, 0), 6, 0, 0, {256, 2, 1, 5, 1, 6}, NO_TAIL},
+    {"inner list at fault", REFUSED(24, 8), 7, 0, 0, {256, 2, 256, 1, 1, 5, 7}, NO_TAIL},
+    {"inner typed list of 0", REFUSED(24, 8), 4, 0, 0, {256, 2, 265, 0}, NO_TAIL},
+    {"unknown element", REFUSED(26, 8), 3, 0, 0, {256, 1, 7}, NO_TAIL},
+    {"unknown element at depth 8", REFUSED(26, 64), 17, 0, 0,
+     {256, 1, 256, 1, 256, 1, 256, 1, 256, 1, 256, 1, 256, 1, 256, 1, 512}, NO_TAIL},
+    {"string length 0", REFUSED(25, 8), 3, 0, 0, {260, 1, 0}, NO_TAIL},
+    {"string length below 0", REFUSED(25, 8), 3, 0, 0, {260, 1, 0xffffffff}, NO_TAIL},
+    {"blob length below 0", REFUSED(25, 8), 3, 0, 0, {268, 1, 0x80000000}, NO_TAIL},
+    {"string length beyond the limit", REFUSED(28, 12), 3, 0, 0, {260, 1, 0x7fffffff}, NO_TAIL},
+    {"blob one beyond the limit", REFUSED(28, 12), 3, 0, 0, {268, 1, 4085}, NO_TAIL},
+    {"blob to the limit, cut", REFUSED(21, 12), 3, 0, 0, {268, 1, 4084}, NO_TAIL},
+    {"zero within a string", REFUSED(25, 12), 3, 4, 0, {260, 1, 4}, "A\0A\0", {{0}}, NULL},
+    {"string not closed", REFUSED(25, 12), 3, 4, 0, {260, 1, 4}, "AAAA", {{0}}, NULL},
+    {"string cut", REFUSED(21, 12), 3, 3, 0, {260, 1, 4}, "A\0A", {{0}}, NULL},
+};
+
+const size_t list_case_count = sizeof list_cases / sizeof list_cases[0];
+
+void put_words(uint8_t *bytes, const uint32_t *words, size_t count)
+{
+    for (size_t at = 0; at < 4 * count; at++)
+        bytes[at] = (uint8_t)(words[at / 4] >> 8 * (at % 4));
+}
+
+uint8_t *list_bytes(const struct list_case *given, size_t *length)
+{
+    *length = 4 * given->word_count + given->tail_length;
+    uint8_t *bytes = lend(*length);
+    put_words(bytes, given->words, given->word_count);
+    if (given->tail_length > 0)
+        memcpy(bytes + 4 * given->word_count, given->tail, given->tail_length);
+    return bytes;
+}
+
+uint8_t *list_rows(const struct list_case *given)
+{
+    uint8_t *rows = lend(ROW_BYTES * given->row_count);
+    for (size_t row = 0; row < given->row_count; row++)
+        put_words(rows + ROW_BYTES * row, given->rows[row], 3);
+    return rows;
+}

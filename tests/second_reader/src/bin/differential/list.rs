@@ -1,0 +1,104 @@
+//! `cinder_list_decode` against the second reader.
+
+use crate::lent::{exact, list_answer, ListLent};
+use crate::report::{count_answer, Difference, Section};
+use archive::list_decode;
+use second_reader::generate::{buffer_length, list};
+use second_reader::list::{decode, ROWS_ROOM, STORE_ROOM};
+use second_reader::random::Random;
+
+pub const SECTION: Section =
+    Section { name: "list", progress: 10_000, enumerated, random: random_case };
+
+fn check(bytes: Vec<u8>, rows: usize, store: usize, pattern: u64) -> Result<(), Difference> {
+    let bytes = exact(bytes);
+    let mut expected_lent = ListLent::new(rows, store, pattern);
+    let mut found_lent = ListLent::new(rows, store, pattern);
+    let expected = list_answer(decode(&bytes, &mut expected_lent.rows, &mut expected_lent.store));
+    let found = list_decode(&bytes, &mut found_lent.rows, &mut found_lent.store);
+    count_answer(expected.error);
+    if expected == found && expected_lent == found_lent {
+        return Ok(());
+    }
+    Err(expected_lent.difference(&bytes, pattern, None, (expected, found), &found_lent))
+}
+
+fn random_case(random: &mut Random) -> Result<u64, Difference> {
+    let bytes = list::any(random);
+    // Most buffers are large enough, or else most answers would be 20.
+    let (rows, store) = match random.below(8) {
+        0 => (buffer_length(random, ROWS_ROOM), STORE_ROOM),
+        1 => (ROWS_ROOM, buffer_length(random, STORE_ROOM)),
+        2 => (buffer_length(random, ROWS_ROOM), buffer_length(random, STORE_ROOM)),
+        _ => (ROWS_ROOM, STORE_ROOM),
+    };
+    check(bytes, rows, store, random.next())?;
+    Ok(1)
+}
+
+/// Numbers that stand in the place of each word of a list in turn.
+const WORDS: [u32; 16] = [
+    0, 1, 4, 9, 10, 12, 255, 256, 257, 260, 265, 512, 0x7fff_ffff, 0x8000_0000, 0xffff_ffff, 4096,
+];
+
+/// A few hundred lists of every shape: buffers of each size, cut at every byte, each
+/// byte changed, each word replaced.
+fn enumerated() -> Result<u64, Difference> {
+    let mut random = Random::new(0);
+    let mut checks = 0;
+    for number in 0..200 {
+        let elements = match number % 8 {
+            0 => list::nested(&mut random, 8),
+            1 => list::nested(&mut random, 9),
+            _ => list::tree(&mut random, 8, 300),
+        };
+        let bytes = list::image(&elements);
+        checks += whole(&bytes)?;
+        checks += changed(&bytes)?;
+    }
+    for _ in 0..8 {
+        let bytes = list::image(&list::around_the_limit(&mut random));
+        for length in 0..bytes.len() {
+            check(bytes[..length].to_vec(), ROWS_ROOM, STORE_ROOM, checks)?;
+            checks += 1;
+        }
+    }
+    Ok(checks)
+}
+
+/// The list into buffers of each size, and cut at every byte.
+fn whole(bytes: &[u8]) -> Result<u64, Difference> {
+    let mut checks = 0;
+    for rows in [0, 1, ROWS_ROOM - 12, ROWS_ROOM - 1, ROWS_ROOM, ROWS_ROOM + 1, ROWS_ROOM + 12] {
+        for store in [0, 1, STORE_ROOM - 1, STORE_ROOM, STORE_ROOM + 1, STORE_ROOM + 100] {
+            check(bytes.to_vec(), rows, store, checks)?;
+            checks += 1;
+        }
+    }
+    for length in 0..bytes.len() {
+        check(bytes[..length].to_vec(), ROWS_ROOM, STORE_ROOM, checks)?;
+        checks += 1;
+    }
+    Ok(checks)
+}
+
+fn changed(bytes: &[u8]) -> Result<u64, Difference> {
+    let mut checks = 0;
+    for at in 0..bytes.len() {
+        for value in [0, 1, 0xff, bytes[at] ^ 1, bytes[at] ^ 0x80] {
+            let mut other = bytes.to_vec();
+            other[at] = value;
+            check(other, ROWS_ROOM, STORE_ROOM, checks)?;
+            checks += 1;
+        }
+    }
+    for at in (0..bytes.len().saturating_sub(3)).step_by(4) {
+        for word in WORDS {
+            let mut other = bytes.to_vec();
+            other[at..at + 4].copy_from_slice(&word.to_le_bytes());
+            check(other, ROWS_ROOM, STORE_ROOM, checks)?;
+            checks += 1;
+        }
+    }
+    Ok(checks)
+}

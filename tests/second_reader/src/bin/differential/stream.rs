@@ -1,0 +1,92 @@
+//! `cinder_stream_next` against the second reader: single steps from any offset, and
+//! whole series of steps from the front.
+
+use crate::lent::{exact, list_answer, ListLent};
+use crate::report::{count_answer, Difference, Section};
+use archive::{stream_next, ListResult};
+use second_reader::generate::{buffer_length, stream as generate};
+use second_reader::list::{Decoded, ListError, ROWS_ROOM, STORE_ROOM};
+use second_reader::random::Random;
+use second_reader::stream::{next, Step};
+
+pub const SECTION: Section =
+    Section { name: "stream", progress: 5_000, enumerated, random: random_case };
+
+/// Steps of one series at most, and how many of them may consume nothing.
+const STEPS: u64 = 40;
+const IDLE_STEPS: u64 = 5;
+
+/// The second reader's answer in the form of the C call.
+fn expected_answer(step: Result<Step, ListError>) -> ListResult {
+    list_answer(step.map(|step| match step {
+        Step::End => Decoded { consumed: 0, rows: 0 },
+        Step::List(decoded) => decoded,
+    }))
+}
+
+/// One step; answers the bytes consumed.
+fn check(
+    bytes: &[u8],
+    offset: u64,
+    (rows, store): (usize, usize),
+    pattern: u64,
+) -> Result<u64, Difference> {
+    let mut expected_lent = ListLent::new(rows, store, pattern);
+    let mut found_lent = ListLent::new(rows, store, pattern);
+    let step = next(bytes, offset, &mut expected_lent.rows, &mut expected_lent.store);
+    let expected = expected_answer(step);
+    let found = stream_next(bytes, offset, &mut found_lent.rows, &mut found_lent.store);
+    count_answer(expected.error);
+    if expected == found && expected_lent == found_lent {
+        return Ok(expected.consumed);
+    }
+    Err(expected_lent.difference(bytes, pattern, Some(offset), (expected, found), &found_lent))
+}
+
+fn lengths(random: &mut Random) -> (usize, usize) {
+    match random.below(6) {
+        0 => (buffer_length(random, ROWS_ROOM), STORE_ROOM),
+        1 => (ROWS_ROOM, buffer_length(random, STORE_ROOM)),
+        _ => (ROWS_ROOM, STORE_ROOM),
+    }
+}
+
+fn random_case(random: &mut Random) -> Result<u64, Difference> {
+    let bytes = exact(generate::any(random));
+    if random.once_in(2) {
+        let offset = generate::offset(random, bytes.len());
+        let lent = lengths(random);
+        check(&bytes, offset, lent, random.next())?;
+        return Ok(1);
+    }
+    let mut offset = 0;
+    let mut idle = 0;
+    let mut steps = 0;
+    while steps < STEPS && idle < IDLE_STEPS {
+        let lent = lengths(random);
+        let consumed = check(&bytes, offset, lent, random.next())?;
+        offset += consumed;
+        idle += u64::from(consumed == 0);
+        steps += 1;
+    }
+    Ok(steps)
+}
+
+/// A short stream from every offset, a few past its end and the largest.
+fn enumerated() -> Result<u64, Difference> {
+    let mut random = Random::new(0);
+    let mut checks = 0;
+    for _ in 0..20 {
+        let mut stream = generate::lists(&mut random);
+        stream.truncate(600);
+        let bytes = exact(stream);
+        let end = bytes.len() as u64;
+        for offset in (0..=end + 20).chain([1 << 32, (1 << 32) + end, 1 << 63, u64::MAX]) {
+            for lent in [(ROWS_ROOM, STORE_ROOM), (ROWS_ROOM - 1, STORE_ROOM), (ROWS_ROOM, 0)] {
+                check(&bytes, offset, lent, checks)?;
+                checks += 1;
+            }
+        }
+    }
+    Ok(checks)
+}

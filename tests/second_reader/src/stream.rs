@@ -1,0 +1,67 @@
+//! A stream of lists, read one at a time, and the run program's output.
+
+use crate::list::{self, Decoded, ListError, ROWS_ROOM, STORE_ROOM};
+use crate::Error;
+use std::fmt::Write;
+
+/// The most bytes that the run program reads.
+pub const RUN_LIMIT: usize = 32_768;
+
+/// The answer of one step that is no error.
+#[derive(Clone, Copy, PartialEq, Eq, Debug)]
+pub enum Step {
+    End,
+    List(Decoded),
+}
+
+/// Reads the list at `offset`; offsets of errors count from the stream's front. At
+/// the stream's end nothing is written.
+pub fn next(
+    bytes: &[u8],
+    offset: u64,
+    rows: &mut [u8],
+    store: &mut [u8],
+) -> Result<Step, ListError> {
+    if rows.len() < ROWS_ROOM || store.len() < STORE_ROOM {
+        return Err(ListError { error: Error::BufferTooSmall, offset: 0 });
+    }
+    let length = bytes.len() as u64;
+    if offset > length {
+        return Err(ListError { error: Error::ListEnds, offset });
+    }
+    if offset == length {
+        return Ok(Step::End);
+    }
+    match list::decode(&bytes[offset as usize..], rows, store) {
+        Ok(decoded) => Ok(Step::List(decoded)),
+        Err(fault) => Err(ListError { offset: offset + fault.offset, ..fault }),
+    }
+}
+
+/// What the run program prints for this standard input.
+pub fn run_output(input: &[u8]) -> String {
+    if input.len() > RUN_LIMIT {
+        return String::from("too long\n");
+    }
+    let mut rows = [0; ROWS_ROOM];
+    let mut store = [0; STORE_ROOM];
+    let mut output = String::new();
+    let mut offset = 0;
+    for number in 1.. {
+        match next(input, offset, &mut rows, &mut store) {
+            Ok(Step::List(Decoded { consumed, rows })) => {
+                let _ = writeln!(output, "list {number} bytes {consumed} rows {rows}");
+                offset += consumed as u64;
+            }
+            Ok(Step::End) => {
+                let _ = writeln!(output, "end {offset}");
+                break;
+            }
+            Err(ListError { error, offset }) => {
+                let _ = writeln!(output, "stop {} at {offset}", error.number());
+                break;
+            }
+        }
+    }
+    output
+}
