@@ -1,19 +1,18 @@
 -- One step of each loop over a part: what the executable COBS definitions say one byte further on.
 use Prim.Native.Nat.{ℕ, zero, suc, pred, _+_, _-_, _≤_, _<_}
 use mathlib.Core.Path.{_≡_, refl, ap, _∙_, sym}
-use mathlib.Core.Bool.{Bool, true, false, _||_}
+use mathlib.Core.Bool.{true, false}
 use mathlib.Core.List.{List, [], _∷_, _++_, append-assoc, append-nil}
 use native.Mathlib.Numerals.{add-one, sub-one}
 use native.Mathlib.Omega.{arith}
 use lib.ListN.{length, take, drop, getD, set, drop-of-length-le, take-append-drop, length-set, length-drop, length-append}
 use lib.Seq.{drop-cons, take-suc-set, drop-set-lt, drop-drop, take-all, drop-length, length-take-le, append-snoc, set-at, take-suc}
-use Rattle.packet.specs.Cobs.{hasZero, plain, lacking, decodedPart, codeOr, gapFrom, gapBefore, stuffed}
+use Rattle.wire.specs.Zero.{hasZero}
+use Rattle.packet.specs.Cobs.{plain, lacking, decodedPart, codeOr, gapFrom, gapBefore, stuffed}
 
 -- a Boolean is not both
 pub clash : {X : Type 0} → true ≡ false → X
 clash h = let z : _≡_ {A = ℕ} 0 1 = cc in absurd (omega arith)
-
--- The search for a 00.
 
 pub zero-at : (e : List ℕ) (i : ℕ) → hasZero e ≡ false → i < length e → 1 ≤ getD e i 0
 unfolding hasZero
@@ -21,31 +20,6 @@ zero-at [] i z h = absurd (omega arith)
 zero-at (zero ∷ e) i z h = clash z
 zero-at (suc b ∷ e) zero z h = omega arith
 zero-at (suc b ∷ e) (suc i) z h = zero-at e i z (omega arith)
-
-or-true : (b : Bool) → (b || true) ≡ true
-or-true true = refl
-or-true false = refl
-
-hasZero-cons : (b : ℕ) (e : List ℕ) → (b ≡ 0 → ⊥) → hasZero (b ∷ e) ≡ hasZero e
-unfolding hasZero
-hasZero-cons zero e h = absurd (h refl)
-hasZero-cons (suc b) e h = refl
-
-module _ (e : List ℕ) (i : ℕ) (found : Bool) where
-  pub search-hit : i < length e → getD e i 0 ≡ 0 → (found || hasZero (drop i e)) ≡ true
-  unfolding hasZero
-  search-hit h z = rw (drop-cons e i 0, z) (or-true found)
-
-  pub search-on : i < length e → (getD e i 0 ≡ 0 → ⊥) → (found || hasZero (drop i e)) ≡ (found || hasZero (drop (i + 1) e))
-  search-on h z = rw (drop-cons e i 0, add-one) (ap (λ (b : Bool). found || b) (hasZero-cons _ _ z))
-
-  pub search-end : length e ≤ i → (found || hasZero (drop i e)) ≡ found
-  unfolding hasZero
-  search-end h = rw (drop-of-length-le e h) (or-false found)
-    where
-      or-false : (b : Bool) → (b || false) ≡ b
-      or-false true = refl
-      or-false false = refl
 
 -- Decoding a part.
 
@@ -128,7 +102,7 @@ unfolding stuffed
 length-stuffed g [] = refl
 length-stuffed g (b ∷ m) = ap suc (length-stuffed g m)
 
-gapFrom-le : (b g : ℕ) → gapFrom b g ≤ suc g
+pub gapFrom-le : (b g : ℕ) → gapFrom b g ≤ suc g
 unfolding gapFrom
 gapFrom-le zero g = omega arith
 gapFrom-le (suc b) g = omega arith

@@ -8,7 +8,7 @@ use lib.Dec.{ltb, eqb}
 use lib.ListN.{length, getD, take, drop, length-drop}
 use lib.Seq.{take-all}
 use borrow.Author.Tests.{eq-eqb, ne-eqb, lt-ltb, le-ltb, ltb-false, eqb-true, not-false}
-use Rattle.packet.specs.Cobs.{hasZero}
+use Rattle.wire.specs.Zero.{hasZero}
 use Rattle.packet.specs.Packet.{frontError, lengthByte, partPresent}
 
 module _ (s : List ℕ) where

@@ -3,3 +3,4 @@ pub mod Sums
 pub mod Lengths
 pub mod FrontTests
 pub mod DecodeStages
+pub mod EncodeStages

@@ -1,15 +1,10 @@
 -- COBS for parts of at most 255 bytes ("The encoded part is COBS blocks"): first what it means, by blocks, then how it is computed.
 use Prim.Native.Nat.{ℕ, zero, suc, pred}
 use mathlib.Core.Path.{_≡_}
-use mathlib.Core.Bool.{Bool, true, false}
+use mathlib.Core.Bool.{false}
 use mathlib.Core.List.{List, [], _∷_, _++_}
 use lib.ListN.{length, drop}
-
--- is a 00 among the bytes ("none of them 00")
-unfoldable pub hasZero : List ℕ → Bool
-hasZero [] = false
-hasZero (zero ∷ bytes) = true
-hasZero (suc b ∷ bytes) = hasZero bytes
+use Rattle.wire.specs.Zero.{hasZero}
 
 -- THE MEANING. A block is the list of the c-1 bytes that follow its code byte c.
 abbrev pub Block : Type 0

@@ -5,9 +5,10 @@ use mathlib.Core.Bool.{true, not, cond}
 use mathlib.Core.List.{List, [], _∷_, _++_}
 use lib.Dec.{eqb, ltb}
 use lib.ListN.{length, getD, take, drop, replicate}
+use Rattle.wire.specs.Zero.{hasZero}
 use Rattle.packet.specs.declared.Answer.{Answer}
 use Rattle.packet.specs.declared.Answer.the-variants.{Packet, Refused}
-use Rattle.packet.specs.Cobs.{Encodes, hasZero, lacking, decodedPart}
+use Rattle.packet.specs.Cobs.{Encodes, lacking, decodedPart}
 use Rattle.packet.specs.TypeTable.{allowed}
 use Rattle.packet.specs.Message.{messageOf, messageError}
 

@@ -5,22 +5,8 @@ ghost use mathlib.Core.Path.{_≡_};
 ghost use mathlib.Core.List.{_++_};
 ghost use mathlib.Core.Bool.{false};
 ghost use lib.ListN.{length, drop};
-ghost use Rattle.packet.specs.Cobs.{hasZero, decodedPart, lacking, codeOr, gapFrom, gapBefore, stuffed};
-
-// Looks at every byte: a loop that never leaves early is the faster one for so few bytes.
-pub fn has_zero(bytes: &[u8]) -> bool
-    ensures { λ r. ⌜ r ≡ hasZero (now (bytes .entry)) ⌝ }
-{
-    let mut found = false;
-    let mut i = 0;
-    while i < bytes.len() {
-        if bytes[i] == 0 {
-            found = true;
-        }
-        i += 1;
-    }
-    found
-}
+ghost use Rattle.wire.specs.Zero.{hasZero};
+ghost use Rattle.packet.specs.Cobs.{decodedPart, lacking, codeOr, gapFrom, gapBefore, stuffed};
 
 // Decodes a part into the front of the working copy, and answers how many bytes the last block lacks.
 pub fn decode_part(part: &[u8], message: &mut [u8; PACKET_ROOM]) -> usize

@@ -2,8 +2,10 @@
 mod cobs;
 mod message;
 mod read;
+mod write;
 
 pub use read::decode;
+pub use write::encode;
 
 // Room for any packet: the size of a working copy, and the least buffer that is written to.
 pub const PACKET_ROOM: usize = 257;

@@ -3,7 +3,6 @@ use super::Answer;
 use super::Decoded;
 use super::PACKET_ROOM;
 use super::cobs::decode_part;
-use super::cobs::has_zero;
 use super::message::message_error;
 ghost use mathlib.Core.Path.{_≡_};
 ghost use Rattle.packet.specs.Packet.{frontError, judgementOf, decoded, refusal};
@@ -26,12 +25,12 @@ fn front_error(bytes: &[u8]) -> u8
         return 3;
     }
     if bytes.len() < n + 2 {
-        if has_zero(&bytes[2..]) {
+        if wire::has_zero(&bytes[2..]) {
             return 4;
         }
         return 1;
     }
-    if has_zero(&bytes[2..n + 2]) {
+    if wire::has_zero(&bytes[2..n + 2]) {
         return 4;
     }
     0

@@ -2,7 +2,7 @@
 use mathlib.Core.Path.{_≡_, sym, ap, _∙_}
 use native.Mathlib.Omega.{arith}
 use borrow.Author.Needs.{needs}
-use Rattle.packet.specs.Cobs.{hasZero}
+use Rattle.wire.specs.Zero.{hasZero}
 use Rattle.packet.proofs.FrontTests.{front-none, front-mark, front-one, front-size, front-zero, front-short, front-good, part-short, part-whole}
 use Rattle.packet.proofs.read.front_error.Statement.{statement}
 use Rattle.packet.proofs.read.front_error.Tie as tie

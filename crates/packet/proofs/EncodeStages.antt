@@ -1,0 +1,114 @@
+-- The stages of writing: the checksum, the checksum's byte, the payload, the front; and that together they are the packet.
+use Prim.Native.Nat.{ℕ, zero, suc, _+_, _-_, _≤_, _<_}
+use mathlib.Core.Path.{_≡_, refl, sym, ap, ap₂, _∙_}
+use mathlib.Core.Bool.{Bool, true, false}
+use mathlib.Core.List.{List, [], _∷_, _++_, append-assoc}
+use native.Mathlib.Omega.{arith}
+use lib.Bits.{bitXor, xor-zero-l}
+use lib.ListN.{length, take, drop, set, length-append, length-drop, length-set}
+use lib.Seq.{drop-drop, drop-at, drop-cons, length-take-le, set-split}
+use borrow.Author.Tests.{lt-ltb, le-ltb}
+use borrow.Rule.Slice.PartMut.{putMid}
+use Rattle.wire.specs.Area.{over}
+use Rattle.packet.specs.Cobs.{codeOr, gapFrom, gapBefore, stuffed, encodedPart}
+use Rattle.packet.specs.TypeTable.{allowed}
+use Rattle.packet.specs.Message.{xorFrom, headOf, messageOf}
+use Rattle.packet.specs.Encode.{Writing, Result, written, refused, packetOf, encodeError, encoded}
+use Rattle.packet.proofs.CobsSteps.{length-stuffed}
+
+pub length-messageOf : (kind : ℕ) (payload : List ℕ) → length (messageOf kind payload) ≡ length payload + 3
+length-messageOf kind payload = simp length-append (omega arith)
+
+pub length-encodedPart : (kind : ℕ) (payload : List ℕ) → length (encodedPart (messageOf kind payload)) ≡ length payload + 4
+length-encodedPart kind payload = length-stuffed 0 (0 ∷ messageOf kind payload) ∙ omega (arith, length-messageOf kind payload)
+
+pub length-packetOf : (kind : ℕ) (payload : List ℕ) → length (packetOf kind payload) ≡ length payload + 6
+length-packetOf kind payload = omega (arith, length-encodedPart kind payload)
+
+-- the answers
+module _ (kind : ℕ) (payload buffer : List ℕ) where
+  pub encoded-small : length buffer < 257 → record { result = refused 20; buffer = buffer } ≡ encoded kind payload buffer
+  unfolding encoded encodeError
+  encoded-small h = simp (lt-ltb _ _ h)
+
+  module _ (h : 257 ≤ length buffer) where
+    pub encoded-unknown : allowed kind (length payload) ≡ false → record { result = refused 8; buffer = buffer } ≡ encoded kind payload buffer
+    unfolding encoded encodeError
+    encoded-unknown a = simp (le-ltb _ _ h, a)
+
+    pub encoded-good : allowed kind (length payload) ≡ true
+        → record { result = written (length (packetOf kind payload)); buffer = over (packetOf kind payload) buffer } ≡ encoded kind payload buffer
+    unfolding encoded encodeError
+    encoded-good a = simp (le-ltb _ _ h, a)
+
+-- two lists after one another, encoded from the back
+pub gap-append : (last : ℕ) (m r : List ℕ) → gapBefore last (m ++ r) ≡ gapBefore (gapBefore last r) m
+unfolding gapBefore
+gap-append last [] r = refl
+gap-append last (b ∷ m) r = ap (gapFrom b) (gap-append last m r)
+
+pub stuffed-append : (last : ℕ) (m r : List ℕ) → stuffed last (m ++ r) ≡ stuffed (gapBefore last r) m ++ stuffed last r
+unfolding stuffed
+stuffed-append last [] r = refl
+stuffed-append last (b ∷ m) r = ap₂ (λ (g : ℕ) (l : List ℕ). codeOr b g ∷ l) (gap-append last m r) (stuffed-append last m r)
+
+module _ (kind : ℕ) (payload : List ℕ) where
+  abbrev pub sumOf : ℕ
+  sumOf = xorFrom 0 (headOf kind payload)
+
+  -- the checksum as the code computes it
+  pub sum-from : xorFrom (bitXor kind (length payload)) payload ≡ sumOf
+  unfolding xorFrom
+  sum-from = rw (xor-zero-l kind)
+
+  abbrev pub lastGap : ℕ
+  lastGap = gapFrom sumOf 0
+
+  abbrev pub firstGap : ℕ
+  firstGap = gapBefore lastGap payload
+
+  abbrev pub front : List ℕ
+  front = stuffed firstGap (0 ∷ kind ∷ length payload ∷ [])
+
+  -- the packet as the code writes it: the front, the payload, the checksum's byte
+  pub packet-stages : packetOf kind payload ≡ 0 ∷ (length payload + 4) ∷ (front ++ (stuffed lastGap payload ++ (codeOr sumOf 0 ∷ [])))
+  unfolding gapBefore stuffed
+  packet-stages =
+      ap (λ (n : ℕ). 0 ∷ n ∷ encodedPart (messageOf kind payload)) (length-encodedPart kind payload)
+      ∙ ap (λ (l : List ℕ). 0 ∷ (length payload + 4) ∷ l) (stuffed-append 0 (0 ∷ kind ∷ length payload ∷ []) (payload ++ (sumOf ∷ []))
+      ∙ ap₂ (λ (g : ℕ) (l : List ℕ). stuffed g (0 ∷ kind ∷ length payload ∷ []) ++ l) (gap-append 0 payload (sumOf ∷ [])) (stuffed-append 0 payload (sumOf ∷ [])))
+
+  module _ (buffer : List ℕ) (room : length payload + 6 ≤ length buffer) where
+    abbrev pub closed : List ℕ
+    closed = set buffer (length payload + 5) (codeOr sumOf 0)
+
+    abbrev pub loaded : List ℕ
+    loaded = putMid 5 (length payload + 5 - 5) closed (stuffed lastGap payload)
+
+    tail : drop (length payload + 5) closed ≡ codeOr sumOf 0 ∷ drop (length payload + 6) buffer
+    tail =
+        let e : suc (length payload + 5) ≡ length payload + 6 = omega arith in
+        ap (drop (length payload + 5)) (set-split buffer (length payload + 5) (codeOr sumOf 0) (omega arith))
+        ∙ drop-at (take (length payload + 5) buffer) _ (length payload + 5) (length-take-le (length payload + 5) buffer (omega arith))
+        ∙ ap (λ (k : ℕ). codeOr sumOf 0 ∷ drop k buffer) e
+
+    pub length-closed : length closed ≡ length buffer
+    length-closed = length-set buffer (length payload + 5) (codeOr sumOf 0)
+
+    behind : drop 5 loaded ≡ stuffed lastGap payload ++ (codeOr sumOf 0 ∷ drop (length payload + 6) buffer)
+    behind =
+        let e : length payload + 5 - 5 ≡ length payload = omega arith in
+        let f : 5 + length payload ≡ length payload + 5 = omega arith in
+        drop-at (take 5 closed) _ 5 (length-take-le 5 closed (omega (arith, length-closed)))
+        ∙ ap (λ (l : List ℕ). stuffed lastGap payload ++ l) (rw (e, drop-drop (length payload) 5 closed, f) tail)
+
+    pub length-loaded : length loaded ≡ length buffer
+    length-loaded =
+        simp (length-append, length-drop, length-stuffed)
+        (omega (arith, length-take-le 5 closed (omega (arith, length-closed)), length-closed))
+
+    pub whole : 0 ∷ (length payload + 4) ∷ (front ++ drop 5 loaded) ≡ over (packetOf kind payload) buffer
+    whole =
+        ap (λ (l : List ℕ). 0 ∷ (length payload + 4) ∷ (front ++ l)) behind
+        ∙ sym (ap₂ (λ (p : List ℕ) (n : ℕ). p ++ drop n buffer) packet-stages (length-packetOf kind payload)
+        ∙ ap (λ (l : List ℕ). 0 ∷ (length payload + 4) ∷ l) (simp append-assoc))
