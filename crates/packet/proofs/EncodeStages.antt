@@ -107,8 +107,13 @@ module _ (kind : ℕ) (payload : List ℕ) where
         simp (length-append, length-drop, length-stuffed)
         (omega (arith, length-take-le 5 closed (omega (arith, length-closed)), length-closed))
 
-    pub whole : 0 ∷ (length payload + 4) ∷ (front ++ drop 5 loaded) ≡ over (packetOf kind payload) buffer
+    whole : 0 ∷ (length payload + 4) ∷ (front ++ drop 5 loaded) ≡ over (packetOf kind payload) buffer
     whole =
         ap (λ (l : List ℕ). 0 ∷ (length payload + 4) ∷ (front ++ l)) behind
         ∙ sym (ap₂ (λ (p : List ℕ) (n : ℕ). p ++ drop n buffer) packet-stages (length-packetOf kind payload)
         ∙ ap (λ (l : List ℕ). 0 ∷ (length payload + 4) ∷ l) (simp append-assoc))
+
+    -- the buffer after the last stage
+    pub finished : (out l : List ℕ) (gap : ℕ) → gap ≡ firstGap → l ≡ loaded → out ≡ 0 ∷ (length payload + 4) ∷ (stuffed gap (0 ∷ kind ∷ length payload ∷ []) ++ drop 5 l)
+        → out ≡ over (packetOf kind payload) buffer
+    finished out l gap g f e = e ∙ rw (g, f) whole

@@ -1,6 +1,11 @@
 pub mod CobsSteps
+pub mod CobsBlocks
 pub mod Sums
 pub mod Lengths
 pub mod FrontTests
 pub mod DecodeStages
 pub mod EncodeStages
+pub mod Accepted
+pub mod RoundTrips
+pub mod OneByte
+pub mod Cases

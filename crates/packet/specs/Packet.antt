@@ -19,6 +19,14 @@ pub record IsPacket (bytes : List ℕ) (kind : ℕ) (payload : List ℕ) : Type 
   pub coded : Encodes part (messageOf kind payload)
   pub allows : allowed kind (length payload) ≡ true
 
+-- bytes that start with a packet of that type and payload, `consumed` bytes long ("Later bytes are ignored")
+pub record StartsWith (s : List ℕ) (kind : ℕ) (payload : List ℕ) (consumed : ℕ) : Type 0 where
+  pub bytes : List ℕ
+  pub later : List ℕ
+  pub split : s ≡ bytes ++ later
+  pub packet : IsPacket bytes kind payload
+  pub size : consumed ≡ length bytes
+
 -- "A working copy of one packet has room for 257 bytes, zeros at first"
 abbrev pub PACKET_ROOM : ℕ
 PACKET_ROOM = 257

@@ -2,7 +2,7 @@
 use Prim.Native.Nat.{ℕ, _+_, _-_, _≤_, _<_}
 use mathlib.Core.Path.{_≡_, sym, ap, ap₂, _∙_}
 use mathlib.Core.Bool.{true}
-use mathlib.Core.List.{List, [], _∷_, _++_}
+use mathlib.Core.List.{List}
 use native.Mathlib.Omega.{arith}
 use lib.ListN.{length, drop, set, length-set, length-append, length-drop}
 use borrow.Author.Needs.{needs}
@@ -14,7 +14,7 @@ use Rattle.packet.specs.TypeTable.{allowed}
 use Rattle.packet.specs.Encode.{Writing, written, packetOf}
 use Rattle.packet.proofs.CobsSteps.{gapFrom-le, gap-le}
 use Rattle.packet.proofs.Lengths.{allowed-top}
-use Rattle.packet.proofs.EncodeStages.{encoded-small, encoded-unknown, encoded-good, sumOf, sum-from, lastGap, firstGap, closed, loaded, length-loaded, whole, length-packetOf}
+use Rattle.packet.proofs.EncodeStages.{encoded-small, encoded-unknown, encoded-good, sumOf, sum-from, lastGap, firstGap, closed, loaded, length-loaded, finished, length-packetOf}
 use Rattle.packet.proofs.write.encode.Statement.{statement}
 use Rattle.packet.proofs.write.encode.Tie as tie
 
@@ -62,9 +62,7 @@ filled c = let e = E c in
 
 done : (c : tie.After-put-front) → let e = E (c .before .before .before .before) in c .put-front .last .0 ≡ over (packetOf (K e) (P e)) (B e)
 done c = let u = c .before .before .before .before in let e = E u in
-    c .put-front .ensures
-    ∙ ap₂ (λ (g : ℕ) (l : List ℕ). 0 ∷ (length (P e) + 4) ∷ (stuffed g (0 ∷ K e ∷ length (P e) ∷ []) ++ drop 5 l)) (first u) (filled u)
-    ∙ whole (K e) (P e) (B e) (room e)
+    finished (K e) (P e) (B e) (room e) _ _ _ (first u) (filled u) (c .put-front .ensures)
 
 returns : tie.Need-returns
 returns c = encoded-small _ _ _ (c .if1 .taken)
