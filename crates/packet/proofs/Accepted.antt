@@ -1,18 +1,18 @@
 -- Reading accepts exactly the packets: each packet, with anything behind it, as its type, payload and size (complete), and nothing else (sound).
-use Prim.Native.Nat.{ℕ, zero, suc, _+_, _-_, _≤_, _<_}
-use mathlib.Core.Path.{_≡_, refl, sym, ap, ap₂, _∙_}
+use Prim.Native.Nat.{ℕ, zero, suc, _+_, _-_, _≤_}
+use mathlib.Core.Path.{_≡_, refl, sym, ap, _∙_}
 use mathlib.Core.Bool.{Bool, true, false, not, cond}
 use mathlib.Core.List.{List, [], _∷_, _++_}
 use native.Mathlib.Omega.{arith}
 use lib.Dec.{eqb, eqb·suc-zero}
-use lib.ListN.{length, getD, take, drop, length-append, length-drop, take-append-drop}
-use lib.Seq.{take-at, getD-at, take-suc, take-all, drop-drop, length-take-le}
+use lib.ListN.{length, getD, take, drop, length-append, take-append-drop}
+use lib.Seq.{take-at, getD-at, take-suc, take-all, length-take-le}
 use borrow.Author.Tests.{eq-eqb, eqb-true, eqb-false, not-false}
 use Rattle.wire.specs.Zero.{hasZero}
-use Rattle.packet.specs.Cobs.{Encodes, lacking, decodedPart}
+use Rattle.packet.specs.Cobs.{lacking, decodedPart}
 use Rattle.packet.specs.TypeTable.{allowed}
 use Rattle.packet.specs.Message.{xorFrom, headOf, messageOf, messageError}
-use Rattle.packet.specs.Packet.{IsPacket, StartsWith, Reading, Judgement, accepted, refused, copyOf, lengthByte, partPresent, frontError, packetError, refusal, acceptance, decoded}
+use Rattle.packet.specs.Packet.{IsPacket, StartsWith, Reading, accepted, copyOf, lengthByte, partPresent, frontError, packetError, refusal, acceptance, decoded}
 use Rattle.packet.proofs.CobsBlocks.{decodes, decoded-means, message-length}
 use Rattle.packet.proofs.FrontTests.{Front, front-good, front-passed, pass, not-eqb}
 use Rattle.packet.proofs.DecodeStages.{error-message, decoded-good, decoded-refused, length-part, length-message}

@@ -1,15 +1,15 @@
 -- The stages of reading: where each refusal ends it, and what the working copy holds of an accepted packet.
-use Prim.Native.Nat.{ℕ, zero, suc, _+_, _-_, _≤_, _<_}
+use Prim.Native.Nat.{ℕ, zero, suc, _+_, _-_, _≤_}
 use mathlib.Core.Path.{_≡_, refl, sym, ap, _∙_}
 use mathlib.Core.List.{List, [], _∷_, _++_}
 use native.Mathlib.Nat.{suc-sub-suc, sub-zero, zero-sub}
 use native.Mathlib.Omega.{arith}
 use lib.ListN.{length, getD, take, drop, replicate, length-drop, length-append, length-replicate, List·getD-append}
 use lib.Seq.{take-at, length-take-le}
-use borrow.Author.Tests.{eq-eqb, ne-eqb}
+use borrow.Author.Tests.{ne-eqb}
 use Rattle.packet.specs.Cobs.{plain, lacking, decodedPart}
 use Rattle.packet.specs.Message.{messageError}
-use Rattle.packet.specs.Packet.{Reading, Judgement, accepted, frontError, packetError, lengthByte, partPresent, copyOf, refusal, acceptance, decoded}
+use Rattle.packet.specs.Packet.{accepted, frontError, packetError, lengthByte, partPresent, copyOf, refusal, acceptance, decoded}
 use Rattle.packet.proofs.FrontTests.{Front}
 
 length-plain : (k : ℕ) (e : List ℕ) → length (plain k e) ≡ length e

@@ -1,19 +1,19 @@
 -- The stages of writing: the checksum, the checksum's byte, the payload, the front; and that together they are the packet.
-use Prim.Native.Nat.{ℕ, zero, suc, _+_, _-_, _≤_, _<_}
+use Prim.Native.Nat.{ℕ, suc, _+_, _-_, _≤_, _<_}
 use mathlib.Core.Path.{_≡_, refl, sym, ap, ap₂, _∙_}
-use mathlib.Core.Bool.{Bool, true, false}
+use mathlib.Core.Bool.{true, false}
 use mathlib.Core.List.{List, [], _∷_, _++_, append-assoc}
 use native.Mathlib.Omega.{arith}
 use lib.Bits.{bitXor, xor-zero-l}
 use lib.ListN.{length, take, drop, set, length-append, length-drop, length-set}
-use lib.Seq.{drop-drop, drop-at, drop-cons, length-take-le, set-split}
+use lib.Seq.{drop-drop, drop-at, length-take-le, set-split}
 use borrow.Author.Tests.{lt-ltb, le-ltb}
 use borrow.Rule.Slice.PartMut.{putMid}
 use Rattle.wire.specs.Area.{over}
 use Rattle.packet.specs.Cobs.{codeOr, gapFrom, gapBefore, stuffed, encodedPart}
 use Rattle.packet.specs.TypeTable.{allowed}
 use Rattle.packet.specs.Message.{xorFrom, headOf, messageOf}
-use Rattle.packet.specs.Encode.{Writing, Result, written, refused, packetOf, encodeError, encoded}
+use Rattle.packet.specs.Encode.{written, refused, packetOf, encodeError, encoded}
 use Rattle.packet.proofs.CobsSteps.{length-stuffed}
 
 pub length-messageOf : (kind : ℕ) (payload : List ℕ) → length (messageOf kind payload) ≡ length payload + 3

@@ -1,11 +1,12 @@
 -- The payload lengths of the type table: a single length as a range, and the greatest of all.
-use Prim.Native.Nat.{ℕ, _≤_, _<_}
+use Prim.Native.Nat.{ℕ, _≤_}
 use mathlib.Core.Path.{_≡_, refl, sym, _∙_}
 use mathlib.Core.Bool.{Bool, true, false, cond, _&&_}
 use mathlib.Core.List.{List, [], _∷_}
 use native.Mathlib.Omega.{arith}
 use lib.Dec.{eqb, leb}
-use borrow.Author.Tests.{eq-eqb, ne-eqb, le-leb, lt-leb, eqb-true, eqb-false, leb-true}
+use borrow.Author.Tests.{eq-eqb, ne-eqb, le-leb, leb-true}
+use Rattle.wire.proofs.Chains.{and-right}
 use Rattle.packet.specs.TypeTable.{Row, row, typeTable, allows, allowed}
 use Rattle.packet.proofs.CobsSteps.{clash}
 
@@ -17,10 +18,6 @@ exactly n k = by (leb k n) (leb n k) refl refl
     by true true p q = eq-eqb n k (omega (arith, leb-true k n p, leb-true n k q))
     by true false p q = ne-eqb n k (λ e. clash (sym (le-leb n k (omega arith)) ∙ q))
     by false b p q = ne-eqb n k (λ e. clash (sym (le-leb k n (omega arith)) ∙ p))
-
-second : (a b : Bool) → (a && b) ≡ true → b ≡ true
-second true b h = h
-second false b h = clash (sym h)
 
 either : {P : Type 0} (b x y : Bool) → (x ≡ true → P) → (y ≡ true → P) → cond b x y ≡ true → P
 either true x y f g h = f h
@@ -35,7 +32,7 @@ allows-top : (top : ℕ) (rows : List Row) (kind n : ℕ) → within top rows �
 unfolding allows within
 allows-top top [] kind n w h = clash (sym h)
 allows-top top (row number least most ∷ rows) kind n w h =
-    either (eqb kind number) _ _ (λ e. omega (arith, leb-true n most (second (leb least n) (leb n most) e), w .0)) (allows-top top rows kind n (w .1)) h
+    either (eqb kind number) _ _ (λ e. omega (arith, leb-true n most (and-right (leb least n) (leb n most) e), w .0)) (allows-top top rows kind n (w .1)) h
 
 -- no type allows more than 251 bytes
 pub allowed-top : (kind n : ℕ) → allowed kind n ≡ true → n ≤ 251

@@ -1,15 +1,15 @@
 -- "Two good messages of equal length never differ in exactly one byte."
-use Prim.Native.Nat.{ℕ, suc, _+_, _-_, _≤_, _<_}
+use Prim.Native.Nat.{ℕ, suc, _-_, _<_}
 use mathlib.Core.Path.{_≡_, refl, sym, ap, _∙_}
 use mathlib.Core.Bool.{Bool, true, false}
-use mathlib.Core.List.{List, [], _∷_, _++_}
+use mathlib.Core.List.{List, [], _∷_}
 use native.Mathlib.Omega.{arith}
-use lib.Bits.{bitXor, xor-self}
+use lib.Bits.{xor-self}
 use lib.Dec.{eqb, ltb}
 use lib.ListN.{length, getD, take, drop, set, length-set}
 use lib.Seq.{ext-getD, set-out, set-split, split-at, getD-set-same, getD-set-other}
 use borrow.Author.Tests.{eqb-true, eqb-false, ltb-true, ltb-false}
-use Rattle.packet.specs.Message.{xorFrom, headOf, messageOf, GoodMessage}
+use Rattle.packet.specs.Message.{xorFrom, headOf, GoodMessage}
 use Rattle.packet.proofs.Sums.{xor-append, same-byte}
 
 -- two lists differ at the offset j, and nowhere else

@@ -1,23 +1,23 @@
 -- What is written is read back, and what is read is written again.
-use Prim.Native.Nat.{ℕ, _+_, _-_, _≤_, _<_}
+use Prim.Native.Nat.{ℕ, _-_, _≤_}
 use mathlib.Core.Path.{_≡_, refl, sym, ap, ap₂, _∙_}
-use mathlib.Core.Bool.{Bool, true, false, not, cond}
-use mathlib.Core.List.{List, [], _∷_, _++_, append-assoc}
+use mathlib.Core.Bool.{Bool, true, false, not}
+use mathlib.Core.List.{List, [], _∷_, append-assoc}
 use native.Mathlib.Omega.{arith}
 use lib.Dec.{eqb, ltb}
-use lib.ListN.{length, take, drop, replicate, length-append}
+use lib.ListN.{length, take, drop}
 use lib.Seq.{take-at}
-use borrow.Author.Tests.{eqb-true, eqb-false, not-false, ne-eqb}
+use borrow.Author.Tests.{eqb-true, not-false}
 use Rattle.wire.specs.Area.{over}
 use Rattle.packet.specs.Cobs.{encodedPart}
 use Rattle.packet.specs.TypeTable.{allowed}
 use Rattle.packet.specs.Message.{messageOf}
-use Rattle.packet.specs.Packet.{IsPacket, StartsWith, Reading, Judgement, accepted, copyOf, decoded}
-use Rattle.packet.specs.Encode.{Writing, Result, written, packetOf, encodeError, encoded}
+use Rattle.packet.specs.Packet.{IsPacket, accepted, copyOf, decoded}
+use Rattle.packet.specs.Encode.{Writing, written, packetOf, encodeError, encoded}
 use Rattle.packet.proofs.CobsBlocks.{encodes, encodes-only}
 use Rattle.packet.proofs.FrontTests.{pass}
-use Rattle.packet.proofs.EncodeStages.{encoded-good, length-messageOf}
-use Rattle.packet.proofs.Accepted.{part-length, complete, Sound, sound}
+use Rattle.packet.proofs.EncodeStages.{encoded-good}
+use Rattle.packet.proofs.Accepted.{part-length, complete, sound}
 
 -- what is written for an allowed type and payload is a packet
 pub writes-packet : (kind : ℕ) (payload : List ℕ) → allowed kind (length payload) ≡ true → IsPacket (packetOf kind payload) kind payload

@@ -1,6 +1,6 @@
 // COBS for parts of at most 255 bytes: after every block but the last a zero is restored.
 use super::PACKET_ROOM;
-ghost use Prim.Native.Nat.{ℕ, _+_, _-_, _≤_, _<_};
+ghost use Prim.Native.Nat.{_+_, _-_, _≤_, _<_};
 ghost use mathlib.Core.Path.{_≡_};
 ghost use mathlib.Core.List.{_++_};
 ghost use mathlib.Core.Bool.{false};

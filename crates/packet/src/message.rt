@@ -4,7 +4,7 @@ use super::DEVICE_DATA;
 use super::DEVICE_WRITE;
 use super::LOG;
 use super::PING;
-ghost use Prim.Native.Nat.{ℕ, _+_, _-_, _≤_, _<_};
+ghost use Prim.Native.Nat.{_+_, _-_, _≤_, _<_};
 ghost use mathlib.Core.Path.{_≡_};
 ghost use lib.ListN.{length};
 ghost use Rattle.packet.specs.TypeTable.{allowed};

@@ -6,7 +6,7 @@ use super::cobs::encode_bytes;
 use super::cobs::gap_from;
 use super::message::is_allowed;
 use super::message::xor_from;
-ghost use Prim.Native.Nat.{ℕ, _+_, _≤_, _<_};
+ghost use Prim.Native.Nat.{_+_, _≤_, _<_};
 ghost use mathlib.Core.Path.{_≡_};
 ghost use mathlib.Core.List.{[], _∷_, _++_};
 ghost use lib.ListN.{length, drop};

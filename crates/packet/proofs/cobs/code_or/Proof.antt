@@ -1,5 +1,5 @@
 -- `code_or` is `codeOr`, by the test whether the byte is 00.
-use Prim.Native.Nat.{ℕ, zero, suc, _+_}
+use Prim.Native.Nat.{ℕ, zero, suc}
 use mathlib.Core.Path.{_≡_, refl}
 use native.Mathlib.Numerals.{add-one}
 use borrow.Author.Needs.{needs}

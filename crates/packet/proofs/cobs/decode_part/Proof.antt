@@ -1,6 +1,5 @@
 -- `decode_part` decodes a part. The invariant, `Decoding`: i bytes of the message stand in the working copy, and what is left of the part gives the rest.
-use Prim.Native.Nat.{ℕ, _-_, _+_}
-use mathlib.Core.Path.{refl, _∙_}
+use Prim.Native.Nat.{_-_, _+_}
 use mathlib.Core.Logic.{⊎-elim}
 use native.Mathlib.Omega.{arith}
 use lib.ListN.{length}

@@ -1,8 +1,7 @@
 -- `encode_bytes` encodes from the back. The invariant, `Encoding`: all from i on is encoded, and gap bytes stand before the next 00 from there.
-use Prim.Native.Nat.{ℕ, suc, _+_, _-_, _<_}
+use Prim.Native.Nat.{suc, _-_, _<_}
 use mathlib.Core.Path.{_≡_}
 use native.Mathlib.Omega.{arith}
-use lib.ListN.{length}
 use borrow.Author.Needs.{needs}
 use Rattle.packet.proofs.CobsSteps.{Encoding, encoding, encoding-in, encoding-room, encoding-next, encoding-end, encoding-length}
 use Rattle.packet.proofs.cobs.encode_bytes.Statement.{statement}

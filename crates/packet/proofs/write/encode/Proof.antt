@@ -1,20 +1,20 @@
 -- `encode` is `encoded`: each refusal by its test, and the buffer after each stage of writing.
-use Prim.Native.Nat.{ℕ, _+_, _-_, _≤_, _<_}
+use Prim.Native.Nat.{ℕ, _+_, _-_, _≤_}
 use mathlib.Core.Path.{_≡_, sym, ap, ap₂, _∙_}
 use mathlib.Core.Bool.{true}
 use mathlib.Core.List.{List}
 use native.Mathlib.Omega.{arith}
-use lib.ListN.{length, drop, set, length-set, length-append, length-drop}
+use lib.ListN.{length, set, length-set, length-append, length-drop}
 use borrow.Author.Needs.{needs}
 use borrow.Author.Tests.{not-true, not-false}
 use borrow.Rule.Slice.PartMut.{putMid}
 use Rattle.wire.specs.Area.{over}
 use Rattle.packet.specs.Cobs.{codeOr, gapFrom, gapBefore, stuffed}
 use Rattle.packet.specs.TypeTable.{allowed}
-use Rattle.packet.specs.Encode.{Writing, written, packetOf}
+use Rattle.packet.specs.Encode.{written, packetOf}
 use Rattle.packet.proofs.CobsSteps.{gapFrom-le, gap-le}
 use Rattle.packet.proofs.Lengths.{allowed-top}
-use Rattle.packet.proofs.EncodeStages.{encoded-small, encoded-unknown, encoded-good, sumOf, sum-from, lastGap, firstGap, closed, loaded, length-loaded, finished, length-packetOf}
+use Rattle.packet.proofs.EncodeStages.{encoded-small, encoded-unknown, encoded-good, sumOf, sum-from, lastGap, firstGap, loaded, length-loaded, finished, length-packetOf}
 use Rattle.packet.proofs.write.encode.Statement.{statement}
 use Rattle.packet.proofs.write.encode.Tie as tie
 

@@ -1,13 +1,13 @@
 -- `put_front` writes the five bytes before the payload.
-use Prim.Native.Nat.{ℕ, _+_, _≤_, _<_}
-use mathlib.Core.Path.{_≡_, sym, _∙_}
+use Prim.Native.Nat.{_+_, _≤_}
+use mathlib.Core.Path.{_∙_}
 use mathlib.Core.List.{[], _∷_}
 use native.Mathlib.Numerals.{add-one}
 use native.Mathlib.Omega.{arith}
 use lib.ListN.{length-set}
 use lib.Seq.{sets-eq}
 use borrow.Author.Needs.{needs}
-use Rattle.packet.specs.Cobs.{codeOr, gapFrom, gapBefore, stuffed}
+use Rattle.packet.specs.Cobs.{codeOr, gapBefore, stuffed}
 use Rattle.packet.proofs.CobsSteps.{gapFrom-le}
 use Rattle.packet.proofs.write.put_front.Statement.{statement}
 use Rattle.packet.proofs.write.put_front.Tie as tie
