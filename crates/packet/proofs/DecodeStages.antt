@@ -9,7 +9,7 @@ use lib.Seq.{take-at, length-take-le}
 use borrow.Author.Tests.{ne-eqb}
 use Rattle.packet.specs.Cobs.{plain, lacking, decodedPart}
 use Rattle.packet.specs.Message.{messageError}
-use Rattle.packet.specs.Packet.{accepted, frontError, packetError, lengthByte, partPresent, copyOf, refusal, acceptance, decoded}
+use Rattle.packet.specs.Packet.{PACKET_ROOM, accepted, frontError, packetError, lengthByte, partPresent, copyOf, refusal, acceptance, decoded}
 use Rattle.packet.proofs.FrontTests.{Front}
 
 length-plain : (k : ℕ) (e : List ℕ) → length (plain k e) ≡ length e
@@ -56,12 +56,12 @@ module _ (s : List ℕ) where
     length-message = length-decodedPart (partPresent s) ∙ ap (λ (n : ℕ). n - 1) length-part
 
     -- the working copy after decoding
-    module _ (out : List ℕ) (e : out ≡ decodedPart (partPresent s) ++ drop (length (partPresent s) - 1) (replicate 257 0)) where
+    module _ (out : List ℕ) (e : out ≡ decodedPart (partPresent s) ++ drop (length (partPresent s) - 1) (replicate PACKET_ROOM 0)) where
       copy-whole : out ≡ copyOf (decodedPart (partPresent s))
-      copy-whole = e ∙ ap (λ (l : List ℕ). decodedPart (partPresent s) ++ l) (drop-replicate (length (partPresent s) - 1) 257 ∙ ap (λ (n : ℕ). replicate (257 - n) 0) (sym (length-decodedPart (partPresent s))))
+      copy-whole = e ∙ ap (λ (l : List ℕ). decodedPart (partPresent s) ++ l) (drop-replicate (length (partPresent s) - 1) PACKET_ROOM ∙ ap (λ (n : ℕ). replicate (PACKET_ROOM - n) 0) (sym (length-decodedPart (partPresent s))))
 
       pub copy-message : take (lengthByte s - 1) out ≡ decodedPart (partPresent s)
-      copy-message = rw e (take-at (decodedPart (partPresent s)) (drop (length (partPresent s) - 1) (replicate 257 0)) (lengthByte s - 1) length-message)
+      copy-message = rw e (take-at (decodedPart (partPresent s)) (drop (length (partPresent s) - 1) (replicate PACKET_ROOM 0)) (lengthByte s - 1) length-message)
 
       pub copy-good : record { judgement = accepted (getD out 0 0) (lengthByte s - 4) (lengthByte s + 2); message = out } ≡ acceptance s
       unfolding acceptance
@@ -69,5 +69,5 @@ module _ (s : List ℕ) where
           let k : getD out 0 0 ≡ getD (decodedPart (partPresent s)) 0 0 = rw copy-whole (List·getD-append (decodedPart (partPresent s)) _ 0 0 (omega (arith, length-message, h .least))) in
           rw (k, copy-whole)
 
-      pub copy-length : lengthByte s ≤ 255 → length out ≡ 257
+      pub copy-length : lengthByte s ≤ 255 → length out ≡ PACKET_ROOM
       copy-length k = rw copy-whole (simp (length-append, length-replicate) (omega (arith, length-message)))

@@ -13,6 +13,7 @@ use Rattle.wire.specs.Area.{over}
 use Rattle.packet.specs.Cobs.{codeOr, gapFrom, gapBefore, stuffed, encodedPart}
 use Rattle.packet.specs.TypeTable.{allowed}
 use Rattle.packet.specs.Message.{xorFrom, headOf, messageOf}
+use Rattle.packet.specs.Packet.{PACKET_ROOM}
 use Rattle.packet.specs.Encode.{written, refused, packetOf, encodeError, encoded}
 use Rattle.packet.proofs.CobsSteps.{length-stuffed}
 
@@ -27,11 +28,11 @@ length-packetOf kind payload = omega (arith, length-encodedPart kind payload)
 
 -- the answers
 module _ (kind : ℕ) (payload buffer : List ℕ) where
-  pub encoded-small : length buffer < 257 → record { result = refused 20; buffer = buffer } ≡ encoded kind payload buffer
+  pub encoded-small : length buffer < PACKET_ROOM → record { result = refused 20; buffer = buffer } ≡ encoded kind payload buffer
   unfolding encoded encodeError
   encoded-small h = simp (lt-ltb _ _ h)
 
-  module _ (h : 257 ≤ length buffer) where
+  module _ (h : PACKET_ROOM ≤ length buffer) where
     pub encoded-unknown : allowed kind (length payload) ≡ false → record { result = refused 8; buffer = buffer } ≡ encoded kind payload buffer
     unfolding encoded encodeError
     encoded-unknown a = simp (le-ltb _ _ h, a)

@@ -12,7 +12,7 @@ use Rattle.wire.specs.Area.{over}
 use Rattle.packet.specs.Cobs.{encodedPart}
 use Rattle.packet.specs.TypeTable.{allowed}
 use Rattle.packet.specs.Message.{messageOf}
-use Rattle.packet.specs.Packet.{IsPacket, accepted, copyOf, decoded}
+use Rattle.packet.specs.Packet.{PACKET_ROOM, IsPacket, accepted, copyOf, decoded}
 use Rattle.packet.specs.Encode.{Writing, written, packetOf, encodeError, encoded}
 use Rattle.packet.proofs.CobsBlocks.{encodes, encodes-only}
 use Rattle.packet.proofs.FrontTests.{pass}
@@ -42,7 +42,7 @@ module _ (kind : ℕ) (payload buffer : List ℕ) (count : ℕ) (h : encoded kin
   allows : allowed kind (length payload) ≡ true
   unfolding encodeError
   allows =
-      let p = pass (ltb (length buffer) 257) 19 _ no-refusal in
+      let p = pass (ltb (length buffer) PACKET_ROOM) 19 _ no-refusal in
       not-false (allowed kind (length payload)) (pass (not (allowed kind (length payload))) 7 _ (p .1) .0)
 
   wrote : encoded kind payload buffer ≡ record { result = written (length (packetOf kind payload)); buffer = over (packetOf kind payload) buffer }
@@ -65,7 +65,7 @@ payload-in : (kind : ℕ) (payload : List ℕ) → take (length payload) (drop 2
 payload-in kind payload = ap (take (length payload)) (append-assoc payload _ _) ∙ take-at payload _ (length payload) refl
 
 -- decoded, encodes back: what is accepted and written again, into any buffer with room, gives the same bytes
-pub decoded-encodes : (s : List ℕ) (kind n consumed : ℕ) → decoded s .judgement ≡ accepted kind n consumed → (buffer : List ℕ) → 257 ≤ length buffer
+pub decoded-encodes : (s : List ℕ) (kind n consumed : ℕ) → decoded s .judgement ≡ accepted kind n consumed → (buffer : List ℕ) → PACKET_ROOM ≤ length buffer
     → encoded kind (take n (drop 2 (decoded s .message))) buffer ≡ record { result = written consumed; buffer = over (take consumed s) buffer }
 decoded-encodes s kind n consumed h buffer room =
     let w = sound s kind n consumed h in

@@ -6,11 +6,12 @@ ghost use mathlib.Core.List.{_++_};
 ghost use mathlib.Core.Bool.{false};
 ghost use lib.ListN.{length, drop};
 ghost use Rattle.wire.specs.Zero.{hasZero};
+ghost use Rattle.packet.specs.Packet.{PACKET_ROOM};
 ghost use Rattle.packet.specs.Cobs.{decodedPart, lacking, codeOr, gapFrom, gapBefore, stuffed};
 
 // Decodes a part into the front of the working copy, and answers how many bytes the last block lacks.
 pub fn decode_part(part: &[u8], message: &mut [u8; PACKET_ROOM]) -> usize
-    requires { ⌜ (1 ≤ length (now part)) × (length (now part) ≤ 255) × (hasZero (now part) ≡ false) × (length (now message) ≡ 257) ⌝ }
+    requires { ⌜ (1 ≤ length (now part)) × (length (now part) ≤ 255) × (hasZero (now part) ≡ false) × (length (now message) ≡ PACKET_ROOM) ⌝ }
     ensures { λ r. ⌜ (r ≡ lacking 0 (now (part .entry))) × (now (message .exit) ≡ decodedPart (now (part .entry)) ++ drop (length (now (part .entry)) - 1) (now (message .entry))) ⌝ }
 {
     let mut left = (part[0] - 1) as usize;

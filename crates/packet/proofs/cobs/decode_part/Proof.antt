@@ -4,12 +4,13 @@ use mathlib.Core.Logic.{⊎-elim}
 use native.Mathlib.Omega.{arith}
 use lib.ListN.{length}
 use borrow.Author.Needs.{needs}
+use Rattle.packet.specs.Packet.{PACKET_ROOM}
 use Rattle.packet.proofs.CobsSteps.{zero-at, Decoding, decoding, decoding-code, decoding-byte, decoding-end}
 use Rattle.packet.proofs.cobs.decode_part.Statement.{statement}
 use Rattle.packet.proofs.cobs.decode_part.Tie as tie
 
 abbrev Inv-loop : tie.InvT-loop
-Inv-loop part message₀ left₀ i₀ n message left i = Decoding part message₀ message 257 left i
+Inv-loop part message₀ left₀ i₀ n message left i = Decoding part message₀ message PACKET_ROOM left i
 
 abbrev μ-loop : tie.MeasureT-loop
 μ-loop part message₀ left₀ i₀ n message left i = length part - 1 - i
@@ -62,8 +63,8 @@ loop-again : tie.Need-loop-again Inv-loop μ-loop
 loop-again c = let l = c .before .before .before in
     let s = l .before .before in
     ⊎-elim
-    (λ w. decoding-code (s .args .part .now) (s .args .message .now) (l .loop .message) _ 257 (l .loop .left) _ (l .loop .i) (l .loop .inv) (search needs) (search needs) (w .0 .taken) (w .1) (w .2))
-    (λ w. decoding-byte (s .args .part .now) (s .args .message .now) (l .loop .message) _ 257 (l .loop .left) _ (l .loop .i) (l .loop .inv) (search needs) (search needs) (w .0 .left) (w .1) (w .2))
+    (λ w. decoding-code (s .args .part .now) (s .args .message .now) (l .loop .message) _ PACKET_ROOM (l .loop .left) _ (l .loop .i) (l .loop .inv) (search needs) (search needs) (w .0 .taken) (w .1) (w .2))
+    (λ w. decoding-byte (s .args .part .now) (s .args .message .now) (l .loop .message) _ PACKET_ROOM (l .loop .left) _ (l .loop .i) (l .loop .inv) (search needs) (search needs) (w .0 .left) (w .1) (w .2))
     (c .if1 .came)
 
 returns : tie.Need-returns Inv-loop μ-loop

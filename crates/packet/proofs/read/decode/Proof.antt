@@ -8,7 +8,7 @@ use lib.Seq.{length-take-le}
 use borrow.Author.Needs.{needs}
 use Rattle.packet.specs.Cobs.{lacking, decodedPart}
 use Rattle.packet.specs.Message.{messageError}
-use Rattle.packet.specs.Packet.{frontError, packetError, lengthByte, partPresent}
+use Rattle.packet.specs.Packet.{PACKET_ROOM, frontError, packetError, lengthByte, partPresent}
 use Rattle.packet.proofs.FrontTests.{Front, front-passed, part-whole}
 use Rattle.packet.proofs.DecodeStages.{decoded-refused, decoded-good, error-front, error-lack, error-message, length-part, length-message, copy-message, copy-good, copy-length}
 use Rattle.packet.proofs.read.decode.Statement.{statement}
@@ -27,8 +27,8 @@ S c = c .before .before .before .before .before .before .before .args .bytes .no
 got : (c : tie.After-decode-part) → c .decode-part .result ≡ lacking 0 (partPresent (S c))
 got c = c .decode-part .ensures .0 ∙ ap (lacking 0) (part-whole (S c))
 
-copy : (c : tie.After-decode-part) → c .decode-part .last .1 .0 ≡ decodedPart (partPresent (S c)) ++ drop (length (partPresent (S c)) - 1) (replicate 257 0)
-copy c = c .decode-part .ensures .1 ∙ ap (λ (p : List ℕ). decodedPart p ++ drop (length p - 1) (replicate 257 0)) (part-whole (S c))
+copy : (c : tie.After-decode-part) → c .decode-part .last .1 .0 ≡ decodedPart (partPresent (S c)) ++ drop (length (partPresent (S c)) - 1) (replicate PACKET_ROOM 0)
+copy c = c .decode-part .ensures .1 ∙ ap (λ (p : List ℕ). decodedPart p ++ drop (length p - 1) (replicate PACKET_ROOM 0)) (part-whole (S c))
 
 passed : (c : tie.After-decode-part) → Front (S c)
 passed c = front (c .before .before .before .before)
@@ -36,7 +36,7 @@ passed c = front (c .before .before .before .before)
 small : (c : tie.After-decode-part) → lengthByte (S c) ≤ 255
 small c = omega (arith, c .before .before .before .shared-slice-known2 .given 1)
 
-long : (c : tie.After-decode-part) → length (c .decode-part .last .1 .0) ≡ 257
+long : (c : tie.After-decode-part) → length (c .decode-part .last .1 .0) ≡ PACKET_ROOM
 long c = copy-length (S c) (passed c) _ (copy c) (small c)
 
 judged : (c : tie.After-message-error) → c .message-error .result ≡ packetError (S (c .before .before .before))
