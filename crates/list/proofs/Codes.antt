@@ -5,15 +5,16 @@ use mathlib.Core.Bool.{Bool, true, false, cond}
 use mathlib.Core.Logic.{_⊎_, inl, inr, ⊎-elim}
 use native.Mathlib.Omega.{arith}
 use lib.Dec.{eqb}
-use borrow.Author.Tests.{eqb-true, ne-eqb, eq-eqb}
+use borrow.Author.Tests.{eqb-true, ne-eqb, eq-eqb, le-leb, lt-leb}
 use Rattle.list.specs.declared.Kind.{Kind}
 use Rattle.list.specs.declared.Kind.the-variants.{Int, Float, Str, Blob, Vocab}
 use Rattle.list.specs.declared.KindFound.the-variants.{Is, Unknown}
 use Rattle.list.specs.Kind.{codeOf, kindOf, listCode, typedCode}
-use Rattle.list.specs.Tree.{Elements, none, value, list, kind}
+use Rattle.list.specs.Tree.{Value, Elements, none, value, list, kind}
 use Rattle.list.specs.Bytes.{common, commonOf, codeFor, listCodeOf}
 use Rattle.list.specs.Parse.{isListCode}
 
+-- a kind has its code, and the code names the kind
 pub kind-of-code : (k : Kind) → kindOf (codeOf k) ≡ Is k
 unfolding kindOf
 kind-of-code Int = refl
@@ -38,18 +39,6 @@ code-of-kind code k = go (eqb code 1) refl (eqb code 10) refl (eqb code 4) refl 
     go false p false q false r false u true v h = is 9 Vocab refl v h
     go false p false q false r false u false v h = absurd (let z : _≡_ {A = ℕ} 0 1 = cc in omega arith)
 
-pub kind-of-typed : (k : Kind) → kindOf (typedCode k - listCode) ≡ Is k
-unfolding kindOf
-kind-of-typed Int = refl
-kind-of-typed Float = refl
-kind-of-typed Str = refl
-kind-of-typed Blob = refl
-kind-of-typed Vocab = refl
-
-pub kind-of-list : kindOf (listCode - listCode) ≡ Unknown
-unfolding kindOf
-kind-of-list = refl
-
 pub code-low : (k : Kind) → (0 < codeOf k) × (codeOf k < listCode)
 code-low Int = omega arith
 code-low Float = omega arith
@@ -63,17 +52,28 @@ kind-same k l e =
     let f : Is k ≡ Is l = sym (kind-of-code k) ∙ ap kindOf e ∙ kind-of-code l in
     cc
 
--- a kind's code is no list code, and the other way round
-pub kind-no-list : (k : Kind) → isListCode (codeOf k) ≡ false
-unfolding isListCode
-kind-no-list Int = refl
-kind-no-list Float = refl
-kind-no-list Str = refl
-kind-no-list Blob = refl
-kind-no-list Vocab = refl
+-- what the codes of lists name, and which codes are a list's
+pub kind-of-list : kindOf (listCode - listCode) ≡ Unknown
+unfolding kindOf
+kind-of-list = refl
+
+pub kind-of-typed : (k : Kind) → kindOf (typedCode k - listCode) ≡ Is k
+kind-of-typed k = let e : typedCode k - listCode ≡ codeOf k = omega arith in rw e (kind-of-code k)
 
 pub typed-no-list : (k : Kind) → eqb (typedCode k) listCode ≡ false
 typed-no-list k = ne-eqb (typedCode k) listCode (λ e. omega (arith, code-low k .0))
+
+pub kind-no-list : (k : Kind) → isListCode (codeOf k) ≡ false
+unfolding isListCode
+kind-no-list k = rw (ne-eqb (codeOf k) listCode (λ e. omega (arith, code-low k .1)), lt-leb listCode (codeOf k) (code-low k .1))
+
+pub mixed-is-code : isListCode listCode ≡ true
+unfolding isListCode
+mixed-is-code = refl
+
+pub typed-is-code : (k : Kind) → isListCode (typedCode k) ≡ true
+unfolding isListCode
+typed-is-code k = rw (typed-no-list k, le-leb listCode (typedCode k) (omega arith), kind-of-typed k)
 
 -- the elements are values of the kind k
 abbrev pub AllKind : Kind → Elements → Type 0
@@ -108,7 +108,7 @@ common-from k (value v es) =
     (λ w. inr (rw w (common-mixed es)))
     (common-kinds k (kind v))
 
--- "256 plus the kind if there is at least one element and all are of one kind other than list; else it is 256"
+-- what a list's code says: 256, or that all elements are of its kind
 pub data CodeIs (es : Elements) : Type 0 where
   mixed : listCodeOf es ≡ listCode → CodeIs es
   typed : (k : Kind) → listCodeOf es ≡ typedCode k → AllKind k es → CodeIs es
@@ -141,22 +141,11 @@ common-all k (value v es) a =
     rw (a .0, ne-eqb (codeOf k) 0 (λ e. omega (arith, code-low k .0)), eq-eqb (codeOf k) (codeOf k) refl) (common-all k es (a .1))
 common-all k (list inner es) a = absurd a
 
-pub code-all : (k : Kind) (v : _) (es : Elements) → AllKind k (value v es) → listCodeOf (value v es) ≡ typedCode k
+-- "256 plus the kind if there is at least one element and all are of one kind"
+pub code-all : (k : Kind) (v : Value) (es : Elements) → AllKind k (value v es) → listCodeOf (value v es) ≡ typedCode k
 code-all k v es a = rw (a .0) (ap codeFor (common-all k es (a .1)) ∙ code-for k)
 
 -- the code of a list is a list code, and a 32-bit number
-pub typed-is-code : (k : Kind) → isListCode (typedCode k) ≡ true
-unfolding isListCode kindOf
-typed-is-code Int = refl
-typed-is-code Float = refl
-typed-is-code Str = refl
-typed-is-code Blob = refl
-typed-is-code Vocab = refl
-
-pub mixed-is-code : isListCode listCode ≡ true
-unfolding isListCode
-mixed-is-code = refl
-
 pub code-good : (es : Elements) → (isListCode (listCodeOf es) ≡ true) × (listCodeOf es < 2 ^ 32)
 code-good es = go (code-is es)
   where

@@ -35,16 +35,15 @@ closed-string bs h =
 -- every element has a byte, so a count is no more than the bytes
 count-le : (code : ℕ) (es : Elements) → count es ≤ length (elementBytes code es)
 count-le code none = omega arith
-count-le code (value v es) =
-    simp length-append (omega (arith, count-le code es, value-size v))
-count-le code (list inner es) =
-    simp length-append (omega (arith, count-le code es))
+count-le code (value v es) = simp length-append (omega (arith, count-le code es, value-size v))
+count-le code (list inner es) = simp length-append (omega (arith, count-le code es))
 
 module _ (limit : ℕ) (small : limit < 2 ^ 31) (s : List ℕ) where
   -- an item that is there
   item : (at : ℕ) (xs rest : List ℕ) → Stands s at (xs ++ rest) → at + length xs ≤ limit → itemFault limit s at (length xs) ≡ 0
   item at xs rest h f = fault-none limit s at (length xs) f (stands-length s at xs rest h)
 
+  -- a string and a blob
   string-ok : (bs : List ℕ) (at : ℕ) (rest : List ℕ) → NoZero bs → Stands s at (stringBytes bs ++ rest) → at + length (stringBytes bs) ≤ limit
       → stringAt limit s at ≡ good (str bs) (at + length (stringBytes bs))
   unfolding stringAt
@@ -182,6 +181,7 @@ module _ (limit : ℕ) (small : limit < 2 ^ 31) (s : List ℕ) where
       go (mixed e) h₈ f₈ = rw (e, kind-of-list) (m (at + 8) rest (rw e at h₈) (rw e at f₈))
       go (typed k e a) h₈ f₈ = rw (e, kind-of-typed k) (typed-ok (typedCode k) k es d (at + 8) rest (typed-no-list k) a l (rw e at h₈) (rw e at f₈))
 
+  -- elements that follow their codes
   pub mixed-ok : (es : Elements) (d : ℕ) → LegalElements d es → ReadMixed d es
   unfolding mixedAt listBytes
   mixed-ok none d l at rest h f = rw add-zero
@@ -214,7 +214,7 @@ module _ (limit : ℕ) (small : limit < 2 ^ 31) (s : List ℕ) where
   unfolding parse
   front-ok code rest c small-code h f = rw (item 0 (number code) rest h f, word-of s 0 code rest small-code h, c)
 
--- LEGAL LISTS ARE ACCEPTED
+-- legal lists are accepted with their own meaning and size
 pub complete : (limit : ℕ) (es : Elements) (rest : List ℕ) → limit < 2 ^ 31 → Legal limit es → parse limit (listBytes es ++ rest) ≡ good es (length (listBytes es))
 unfolding listBytes
 complete limit es rest small l =

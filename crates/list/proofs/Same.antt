@@ -114,7 +114,7 @@ same-elements (list i es) (list j fs) used x y p q n h g =
     let k = same-elements es fs (used + length (elementStore i)) x y p q (omega arith) t (r .2) in
     (rw (r .0, k .0), k .1, k .2)
 
--- TWO LISTS WITH THE SAME ROWS AND STORE BYTES ARE ONE
+-- lists with the same rows and store bytes are the same
 pub same-list : (es fs : Elements) → listRows es ≡ listRows fs → listStore es ≡ listStore fs → es ≡ fs
 same-list es fs h g =
     let h₁ : 256 ∷ count es ∷ 0 ∷ elementRows 0 es ≡ 256 ∷ count fs ∷ 0 ∷ elementRows 0 fs = h in

@@ -324,7 +324,7 @@ module _ (limit : ℕ) (s : List ℕ) where
       }))
       (λ c. omega arith))
 
--- WHAT IS READ IS A LEGAL LIST
+-- what is read is a legal list, and its bytes are those at the front
 pub sound : (limit : ℕ) (s : List ℕ) (es : Elements) (n : ℕ) → Bytes s → parse limit s ≡ good es n
     → Legal limit es × (n ≡ length (listBytes es)) × (s ≡ listBytes es ++ drop n s)
 sound limit s es n all h =
@@ -333,6 +333,16 @@ sound limit s es n all h =
     let len : n ≡ length (listBytes es) = omega (arith, w .span .inside, simp (length-append, length-drop) at (ap length e)) in
     ((w .legal all, omega (arith, w .span .fits)), len, e)
 
--- A FAULT IS NOT PAST THE END
+-- the offset of a fault is not past the end
 pub within : (limit : ℕ) (s : List ℕ) (fault offset : ℕ) → parse limit s ≡ bad fault offset → offset ≤ length s
 within limit s fault offset h = rw h at (parse-read limit s)
+
+-- what is read ends within the limit and the bytes: the list at the front, and a list inside it behind its code
+pub reaches : (limit : ℕ) (s : List ℕ) (es : Elements) (n : ℕ) → parse limit s ≡ good es n → (n ≤ limit) × (n ≤ length s)
+reaches limit s es n h = let w : IsWhole limit s es n = rw h at (parse-read limit s) in (w .span .fits, w .span .inside)
+
+pub inner-reaches : (limit : ℕ) (s : List ℕ) (d at code : ℕ) (es : Elements) (n : ℕ) → isListCode code ≡ true → at + 4 ≤ limit → at + 4 ≤ length s
+    → listAt d limit s at code ≡ good es n → (n ≤ limit) × (n ≤ length s)
+inner-reaches limit s d at code es n c f i h =
+    let w : IsList limit s d at code es n = rw h at (list-read limit s d at code c f i) in
+    (w .span .fits, w .span .inside)
