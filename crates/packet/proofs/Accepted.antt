@@ -14,6 +14,7 @@ use Rattle.packet.specs.TypeTable.{allowed}
 use Rattle.packet.specs.Message.{xorFrom, headOf, messageOf, messageError}
 use Rattle.packet.specs.Packet.{IsPacket, StartsWith, Reading, accepted, copyOf, lengthByte, partPresent, frontError, packetError, refusal, acceptance, decoded}
 use Rattle.packet.proofs.CobsBlocks.{decodes, decoded-means, message-length}
+use Rattle.packet.proofs.Lengths.{allowed-top}
 use Rattle.packet.proofs.FrontTests.{Front, front-good, front-passed, pass, not-eqb}
 use Rattle.packet.proofs.DecodeStages.{error-message, decoded-good, decoded-refused, length-part, length-message}
 use Rattle.packet.proofs.EncodeStages.{length-messageOf}
@@ -56,6 +57,13 @@ module _ (bytes : List ℕ) (kind : ℕ) (payload : List ℕ) (p : IsPacket byte
   accepts =
       let e : length (p .part) - 4 ≡ length payload = omega (arith, part-length) in
       sym (decoded-good S no-error) ∙ rw (back, e)
+
+-- "Messages have 3 to 254 bytes, so payloads 0 to 251 and L 4 to 255"
+pub sizes : (bytes : List ℕ) (kind : ℕ) (payload : List ℕ) (p : IsPacket bytes kind payload)
+    → (length payload ≤ 251) × (length (messageOf kind payload) ≡ length payload + 3) × (length (p .part) ≡ length payload + 4) × (length bytes ≡ length payload + 6)
+sizes bytes kind payload p =
+    let l = part-length bytes kind payload p [] in
+    (allowed-top kind (length payload) (p .allows), length-messageOf kind payload, l, omega (arith, ap length (p .framed), l))
 
 -- complete: each packet, with anything behind it, is accepted as exactly its type, payload and size
 pub complete : (s : List ℕ) (kind : ℕ) (payload : List ℕ) (consumed : ℕ) → StartsWith s kind payload consumed

@@ -4,6 +4,7 @@ use mathlib.Core.Bool.{Bool, false, cond, _&&_}
 use mathlib.Core.List.{List, [], _∷_}
 use lib.Dec.{eqb, leb}
 
+-- the column "number"
 abbrev pub PING : ℕ
 PING = 1
 
@@ -23,7 +24,7 @@ LOG = 5
 pub data Row : Type 0 where
   row : (number least most : ℕ) → Row
 
--- | type | payload length |
+-- the columns "type" and "payload length"
 abbrev pub typeTable : List Row
 typeTable =
     row PING 0 0

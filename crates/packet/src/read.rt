@@ -36,6 +36,7 @@ fn front_error(bytes: &[u8]) -> u8
     0
 }
 
+// The answer to an error, with an empty working copy.
 fn refused(error: u8) -> Decoded
     ensures { λ r. ⌜ record { judgement = judgementOf (r .answer); message = r .message } ≡ refusal error ⌝ }
 {
@@ -45,6 +46,8 @@ fn refused(error: u8) -> Decoded
     }
 }
 
+// Judges the packet at the front and answers its type, payload length and size, or the first error.
+// The working copy holds the message of an accepted packet, and zeros alone beside an error.
 pub fn decode(bytes: &[u8]) -> Decoded
     ensures { λ r. ⌜ record { judgement = judgementOf (r .answer); message = r .message } ≡ decoded (now (bytes .entry)) ⌝ }
 {

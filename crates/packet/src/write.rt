@@ -28,6 +28,7 @@ fn put_front(buffer: &mut [u8], kind: u8, n: usize, gap: u8)
     buffer[4] = code_or(len, gap);
 }
 
+// Writes the packet of a type and a payload to the front of the buffer. Nothing is written before the last error is ruled out.
 pub fn encode(kind: u8, payload: &[u8], buffer: &mut [u8]) -> Encoded
     ensures { λ r. ⌜ record { result = resultOf r; buffer = now (buffer .exit) } ≡ encoded kind (now (payload .entry)) (now (buffer .entry)) ⌝ }
 {
