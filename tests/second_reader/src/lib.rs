@@ -5,11 +5,15 @@
 //! error leaves them as they were. No call allocates, apart from those that answer
 //! a program's output as text.
 
+pub mod catalogue;
 pub mod error;
 pub mod generate;
+pub mod hub;
 pub mod list;
 pub mod packet;
 pub mod random;
+pub mod replay;
 pub mod stream;
+pub mod table;
 
 pub use error::Error;

@@ -1,9 +1,12 @@
 //! Seeded inputs, legal and damaged. Legal ones are built from their meaning by the
 //! papers' own wording, apart from the readers and writers of this library.
 
+pub mod catalogue;
 pub mod list;
 pub mod packet;
+pub mod replay;
 pub mod stream;
+pub mod table;
 
 use crate::random::Random;
 

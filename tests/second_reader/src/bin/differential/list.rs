@@ -1,6 +1,6 @@
 //! `cinder_list_decode` against the second reader.
 
-use crate::lent::{exact, list_answer, ListLent};
+use crate::buffers::{exact, list_answer, ListBuffers};
 use crate::report::{count_answer, Difference, Section};
 use archive::list_decode;
 use second_reader::generate::{buffer_length, list};
@@ -12,15 +12,15 @@ pub const SECTION: Section =
 
 fn check(bytes: Vec<u8>, rows: usize, store: usize, pattern: u64) -> Result<(), Difference> {
     let bytes = exact(bytes);
-    let mut expected_lent = ListLent::new(rows, store, pattern);
-    let mut found_lent = ListLent::new(rows, store, pattern);
-    let expected = list_answer(decode(&bytes, &mut expected_lent.rows, &mut expected_lent.store));
-    let found = list_decode(&bytes, &mut found_lent.rows, &mut found_lent.store);
+    let mut expected_buffers = ListBuffers::new(rows, store, pattern);
+    let mut found_buffers = ListBuffers::new(rows, store, pattern);
+    let expected = list_answer(decode(&bytes, &mut expected_buffers.rows, &mut expected_buffers.store));
+    let found = list_decode(&bytes, &mut found_buffers.rows, &mut found_buffers.store);
     count_answer(expected.error);
-    if expected == found && expected_lent == found_lent {
+    if expected == found && expected_buffers == found_buffers {
         return Ok(());
     }
-    Err(expected_lent.difference(&bytes, pattern, None, (expected, found), &found_lent))
+    Err(expected_buffers.difference(&bytes, pattern, None, (expected, found), &found_buffers))
 }
 
 fn random_case(random: &mut Random) -> Result<u64, Difference> {

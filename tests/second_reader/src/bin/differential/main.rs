@@ -4,14 +4,15 @@
 //! Sections of archive calls are compiled in by the features of the same names; the
 //! programs' sections are always there.
 
-mod crash;
 #[cfg(any(feature = "packet", feature = "list", feature = "stream"))]
-mod lent;
+mod buffers;
+mod crash;
 #[cfg(feature = "list")]
 mod list;
 mod options;
 #[cfg(feature = "packet")]
 mod packet;
+mod programs;
 mod report;
 #[cfg(feature = "stream")]
 mod stream;
@@ -32,6 +33,8 @@ fn sections() -> Vec<(Section, u64)> {
         (list::SECTION, 400),
         #[cfg(feature = "stream")]
         (stream::SECTION, 170),
+        (programs::RUN, 15),
+        (programs::REPLAY, 15),
     ]
 }
 
@@ -87,19 +90,15 @@ fn compare(options: &Options, sections: &[(Section, u64)]) -> ExitCode {
 
 type Failure = (&'static str, Option<u64>, Difference);
 
-/// Every enumerated case, then the number of random cases asked for.
+/// The enumerated cases, then the number of random cases asked for.
 fn counted(options: &Options, sections: &[(Section, u64)]) -> Result<String, Failure> {
     let parts: u64 = sections.iter().map(|(_, part)| part).sum();
-    let mut summary = Vec::new();
+    let mut all_cases = 0;
+    let mut all_checks = 0;
     for (section, part) in sections {
         let started = Instant::now();
-        crash::enter(section.name, None);
-        let mut enumerated = 0;
-        if options.first == 0 {
-            enumerated = (section.enumerated)().map_err(|found| (section.name, None, found))?;
-        }
+        let mut checks = enumerated(options, section)?;
         let cases = (options.cases * part).div_ceil(parts);
-        let mut checks = enumerated;
         for number in options.first..options.first + cases {
             checks += one(options, section, number)?;
             if (number + 1) % section.progress == 0 {
@@ -107,14 +106,23 @@ fn counted(options: &Options, sections: &[(Section, u64)]) -> Result<String, Fai
             }
         }
         let seconds = started.elapsed().as_secs_f64();
-        println!(
-            "{}: {enumerated} enumerated and {cases} random cases, {checks} checks, {seconds:.1} s",
-            section.name
-        );
+        println!("{}: {cases} random cases, {checks} checks, {seconds:.1} s", section.name);
         println!("{}: {}", section.name, report::answers());
-        summary.push(format!("{} {}", section.name, enumerated + cases));
+        all_cases += cases;
+        all_checks += checks;
     }
-    Ok(format!("cases {}", summary.join(" ")))
+    Ok(format!("{all_cases} random cases, {all_checks} checks"))
+}
+
+/// The enumerated cases, which are passed over where a random case is repeated.
+fn enumerated(options: &Options, section: &Section) -> Result<u64, Failure> {
+    if options.first > 0 {
+        return Ok(0);
+    }
+    crash::enter(section.name, None);
+    let checks = (section.enumerated)().map_err(|found| (section.name, None, found))?;
+    println!("{}: {checks} checks of enumerated cases", section.name);
+    Ok(checks)
 }
 
 /// Random cases of all sections in turn until the time has passed.

@@ -1,6 +1,6 @@
 //! `cinder_packet_decode` against the second reader.
 
-use crate::lent::{exact, patterned, told};
+use crate::buffers::{exact, patterned, told};
 use crate::report::{count_answer, hex, Difference, Section};
 use archive::{packet_decode, PacketResult};
 use second_reader::generate;

@@ -1,7 +1,7 @@
 //! `cinder_stream_next` against the second reader: single steps from any offset, and
 //! whole series of steps from the front.
 
-use crate::lent::{exact, list_answer, ListLent};
+use crate::buffers::{exact, list_answer, ListBuffers};
 use crate::report::{count_answer, Difference, Section};
 use archive::{stream_next, ListResult};
 use second_reader::generate::{buffer_length, stream as generate};
@@ -31,16 +31,16 @@ fn check(
     (rows, store): (usize, usize),
     pattern: u64,
 ) -> Result<u64, Difference> {
-    let mut expected_lent = ListLent::new(rows, store, pattern);
-    let mut found_lent = ListLent::new(rows, store, pattern);
-    let step = next(bytes, offset, &mut expected_lent.rows, &mut expected_lent.store);
+    let mut expected_buffers = ListBuffers::new(rows, store, pattern);
+    let mut found_buffers = ListBuffers::new(rows, store, pattern);
+    let step = next(bytes, offset, &mut expected_buffers.rows, &mut expected_buffers.store);
     let expected = expected_answer(step);
-    let found = stream_next(bytes, offset, &mut found_lent.rows, &mut found_lent.store);
+    let found = stream_next(bytes, offset, &mut found_buffers.rows, &mut found_buffers.store);
     count_answer(expected.error);
-    if expected == found && expected_lent == found_lent {
+    if expected == found && expected_buffers == found_buffers {
         return Ok(expected.consumed);
     }
-    Err(expected_lent.difference(bytes, pattern, Some(offset), (expected, found), &found_lent))
+    Err(expected_buffers.difference(bytes, pattern, Some(offset), (expected, found), &found_buffers))
 }
 
 fn lengths(random: &mut Random) -> (usize, usize) {

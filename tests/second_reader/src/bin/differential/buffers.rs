@@ -2,7 +2,7 @@
 //! a memory checker sees the first byte beyond, and holding a pattern at first.
 
 #[cfg(any(feature = "list", feature = "stream"))]
-pub use for_lists::{list_answer, ListLent};
+pub use for_lists::{list_answer, ListBuffers};
 
 use crate::report::hex;
 use second_reader::random::Random;
@@ -57,14 +57,14 @@ mod for_lists {
 
     /// The two buffers lent to a call for lists.
     #[derive(PartialEq)]
-    pub struct ListLent {
+    pub struct ListBuffers {
         pub rows: Box<[u8]>,
         pub store: Box<[u8]>,
     }
 
-    impl ListLent {
-        pub fn new(rows: usize, store: usize, pattern: u64) -> ListLent {
-            ListLent { rows: patterned(rows, pattern), store: patterned(store, !pattern) }
+    impl ListBuffers {
+        pub fn new(rows: usize, store: usize, pattern: u64) -> ListBuffers {
+            ListBuffers { rows: patterned(rows, pattern), store: patterned(store, !pattern) }
         }
 
         /// The difference between the buffers and answers of the second reader, first,
@@ -75,10 +75,10 @@ mod for_lists {
             pattern: u64,
             offset: Option<u64>,
             (expected, found): (ListResult, ListResult),
-            found_lent: &ListLent,
+            found_buffers: &ListBuffers,
         ) -> Difference {
-            let (left_rows, right_rows) = told("rows", &self.rows, &found_lent.rows);
-            let (left_store, right_store) = told("store", &self.store, &found_lent.store);
+            let (left_rows, right_rows) = told("rows", &self.rows, &found_buffers.rows);
+            let (left_store, right_store) = told("store", &self.store, &found_buffers.store);
             let mut case = vec![
                 ("bytes", hex(bytes)),
                 ("rows length", self.rows.len().to_string()),

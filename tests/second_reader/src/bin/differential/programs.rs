@@ -1,0 +1,148 @@
+//! The run and replay programs against the second reader: what each prints for an
+//! input. A case is one process.
+
+use crate::options;
+use crate::report::{count_answer, hex, Difference, Section};
+use second_reader::generate::{list, replay as generate_replay, stream as generate_stream};
+use second_reader::random::Random;
+use second_reader::replay::{replay_output, REPLAY_LIMIT};
+use second_reader::stream::{run_output, RUN_LIMIT};
+use std::io::Write;
+use std::path::PathBuf;
+use std::process::{Command, Output, Stdio};
+
+pub const RUN: Section =
+    Section { name: "run", progress: 500, enumerated: run_enumerated, random: run_case };
+pub const REPLAY: Section =
+    Section { name: "replay", progress: 500, enumerated: replay_enumerated, random: replay_case };
+
+/// The folder of the programs: target/bin, or what CINDER_BIN_DIR names.
+fn programs() -> PathBuf {
+    match std::env::var_os("CINDER_BIN_DIR") {
+        Some(named) => PathBuf::from(named),
+        None => options::repository().join("target/bin"),
+    }
+}
+
+/// Runs a program on this standard input. One that ends before it has read all is
+/// judged by what it printed.
+fn output_of(program: &str, input: &[u8]) -> std::io::Result<Output> {
+    let mut child = Command::new(programs().join(program))
+        .stdin(Stdio::piped())
+        .stdout(Stdio::piped())
+        .stderr(Stdio::piped())
+        .spawn()?;
+    let mut stdin = child.stdin.take().expect("standard input is piped");
+    std::thread::scope(|scope| {
+        scope.spawn(move || {
+            let _ = stdin.write_all(input);
+        });
+        child.wait_with_output()
+    })
+}
+
+/// Compares what a program prints with what it owes; answers the number of lines.
+fn check(program: &'static str, input: Vec<u8>, expected: &str) -> Result<u64, Difference> {
+    let found = match output_of(program, &input) {
+        Ok(output) if output.status.code().is_some() => {
+            String::from_utf8_lossy(&output.stdout).into_owned()
+        }
+        Ok(output) => format!("ended by a signal: {}\n", output.status),
+        Err(error) => format!("not started: {error}\n"),
+    };
+    count_lines(expected);
+    if found == expected {
+        return Ok(expected.lines().count() as u64);
+    }
+    let at = expected.lines().zip(found.lines()).take_while(|(left, right)| left == right).count();
+    let line = |text: &str| match text.lines().nth(at) {
+        Some(line) => format!("line {}: {line}", at + 1),
+        None => format!("{} lines, {} bytes", text.lines().count(), text.len()),
+    };
+    Err(Difference {
+        case: vec![("standard input", hex(&input))],
+        expected: line(expected),
+        found: line(&found),
+        input: Some(input),
+    })
+}
+
+/// Counts the answers in lines of either program; all but errors count as 0.
+fn count_lines(text: &str) {
+    for line in text.lines() {
+        let mut words = line.split(' ');
+        let error = match words.next() {
+            Some("stop" | "refused") => words.next().and_then(|number| number.parse().ok()),
+            _ => None,
+        };
+        count_answer(error.unwrap_or(0));
+    }
+}
+
+fn check_run(input: Vec<u8>) -> Result<u64, Difference> {
+    let expected = run_output(&input);
+    check("run", input, &expected)
+}
+
+fn run_case(random: &mut Random) -> Result<u64, Difference> {
+    let mut input = generate_stream::any(random);
+    if random.once_in(12) {
+        // As many lists as come near the most that is read.
+        while input.len() < RUN_LIMIT - 4096 {
+            let elements = list::legal(random);
+            input.extend(list::image(&elements));
+        }
+        let missing = RUN_LIMIT + 2 - input.len();
+        match random.below(3) {
+            0 => input.resize(input.len() + missing - random.below(4), 0),
+            1 => input.extend([0, 1, 0, 0, 0, 0, 0, 0].repeat(missing / 8)),
+            _ => {}
+        }
+    }
+    check_run(input)
+}
+
+fn run_enumerated() -> Result<u64, Difference> {
+    let empty_list = [0, 1, 0, 0, 0, 0, 0, 0];
+    let mut checks = check_run(Vec::new())?;
+    for length in [RUN_LIMIT - 1, RUN_LIMIT, RUN_LIMIT + 1, 2 * RUN_LIMIT, 100_000] {
+        checks += check_run(vec![0; length])?;
+        let mut lists = empty_list.repeat(length / 8);
+        lists.resize(length, 0);
+        checks += check_run(lists)?;
+    }
+    for length in 0..=16 {
+        checks += check_run(empty_list.repeat(2)[..length].to_vec())?;
+    }
+    Ok(checks)
+}
+
+fn check_replay(input: Vec<u8>) -> Result<u64, Difference> {
+    let expected = replay_output(&input);
+    check("replay", input, &expected)
+}
+
+fn replay_case(random: &mut Random) -> Result<u64, Difference> {
+    check_replay(generate_replay::any(random))
+}
+
+/// An empty catalogue, sizes around the limit, and each record alone and cut short.
+fn replay_enumerated() -> Result<u64, Difference> {
+    const EMPTY: [u8; 5] = [3, 0, 0, 0, 0];
+    let mut checks = check_replay(EMPTY.to_vec())?;
+    for length in [REPLAY_LIMIT - 1, REPLAY_LIMIT, REPLAY_LIMIT + 1, 2 * REPLAY_LIMIT] {
+        // Many short records, then one cut short where the length is even.
+        let mut input = EMPTY.to_vec();
+        input.resize(length, 2);
+        checks += check_replay(input)?;
+    }
+    for code in 0..=255 {
+        for behind in [0, 1, 2, 3, 688] {
+            let mut input = EMPTY.to_vec();
+            input.push(code);
+            input.resize(input.len() + behind, 0);
+            checks += check_replay(input)?;
+        }
+    }
+    Ok(checks)
+}

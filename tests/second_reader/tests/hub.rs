@@ -1,0 +1,371 @@
+//! Catalogue, table and the hub's calls: document 01's bench cases, the readings of its
+//! open points, and what holds for any table.
+
+use second_reader::catalogue::{Catalogue, ValueKind};
+use second_reader::generate::list::{image, Element};
+use second_reader::generate::{catalogue as generate_catalogue, packet, table as generate_table};
+use second_reader::hub::{detach, double_of_single, publish, read_parameter, receive, Value};
+use second_reader::list::{decode, LIST_LIMIT, ROWS_ROOM, STORE_ROOM};
+use second_reader::packet::{ACK, DEVICE_DATA, DEVICE_WRITE, LOG, PING};
+use second_reader::random::Random;
+use second_reader::table::{Slot, Table};
+use second_reader::Error;
+use Element::{Blob, Float, Int, List};
+
+/// Type 7: INT readable, FLOAT writable, BOOL readable.
+const CATALOGUE: [u8; 8] = [0x01, 0x07, 0x03, 0x03, 0x00, 0x04, 0x09, 0x06];
+const ACK_PACKET: [u8; 16] = [
+    0x00, 0x0e, 0x0e, 0x02, 0x0a, 0x07, 0x06, 0x01, 0x02, 0x03, 0x04, 0x05, 0x06, 0x07, 0x08, 0x01,
+];
+const DATA_PACKET: [u8; 15] = [
+    0x00, 0x0d, 0x04, 0x04, 0x09, 0x05, 0x01, 0x01, 0x02, 0x07, 0x01, 0x01, 0x03, 0x01, 0x0e,
+];
+
+fn packet_of(packet_type: u8, payload: &[u8]) -> Vec<u8> {
+    packet::packet_of(&packet::message_of(packet_type, payload))
+}
+
+fn ack(device_type: u8, uid: u8) -> Vec<u8> {
+    packet_of(ACK, &[device_type, 6, 1, 2, 3, 4, 5, 6, 7, uid])
+}
+
+/// A data packet with this map and these value bytes.
+fn data(map: u32, values: &[u8]) -> Vec<u8> {
+    packet_of(DEVICE_DATA, &[&map.to_le_bytes()[..], values].concat())
+}
+
+/// A hub with catalogue C that sees after each call that a refusal changed nothing.
+struct Hub {
+    table: Table,
+}
+
+impl Hub {
+    fn new() -> Hub {
+        Hub { table: Table::default() }
+    }
+
+    fn receive(&mut self, socket: u8, bytes: &[u8]) -> Result<usize, u64> {
+        let before = self.table;
+        let answer = receive(&CATALOGUE, &mut self.table, socket, bytes);
+        assert!(answer.is_ok() || self.table == before);
+        assert!(self.table.lawful(&Catalogue::parse(&CATALOGUE).unwrap()));
+        answer.map_err(|error| error.number())
+    }
+
+    fn detach(&mut self, socket: u8) -> Result<(), u64> {
+        let before = self.table;
+        let answer = detach(&CATALOGUE, &mut self.table, socket);
+        assert!(answer.is_ok() || self.table == before);
+        answer.map_err(|error| error.number())
+    }
+
+    fn published(&self) -> Vec<u8> {
+        published(&CATALOGUE, &self.table)
+    }
+}
+
+fn published(catalogue: &[u8], table: &Table) -> Vec<u8> {
+    let mut list = [0xa5; LIST_LIMIT];
+    let length = publish(catalogue, table, &mut list).unwrap();
+    assert!(list[length..].iter().all(|&byte| byte == 0xa5));
+    list[..length].to_vec()
+}
+
+#[test]
+fn bench_case() {
+    let mut hub = Hub::new();
+    assert_eq!(hub.published(), image(&[]));
+    assert_eq!(hub.receive(3, &ACK_PACKET), Ok(16));
+    assert_eq!(hub.receive(3, &DATA_PACKET), Ok(15));
+    let expected = image(&[List(vec![
+        Int(3),
+        Int(7),
+        Blob(vec![1, 2, 3, 4, 5, 6, 7, 8]),
+        List(vec![Int(0), Int(7)]),
+        List(vec![Int(2), Int(1)]),
+    ])]);
+    assert_eq!(expected.len(), 80);
+    assert_eq!(hub.published(), expected);
+    let read = |index| read_parameter(&CATALOGUE, &hub.table, 3, index);
+    assert_eq!(read(0), Ok(Some(Value::Int(7))));
+    assert_eq!(read(1), Ok(None));
+    assert_eq!(read(2), Ok(Some(Value::Flag(true))));
+    assert_eq!(read(31), Ok(None));
+    assert_eq!(read(255), Ok(None));
+}
+
+#[test]
+fn catalogues() {
+    let good = |bytes: &[u8]| Catalogue::parse(bytes).is_ok();
+    assert!(good(&CATALOGUE));
+    assert!(good(&[0, 0, 0]));
+    assert!(good(&[1, 0, 0, 0, 0]));
+    assert!(good(&[1, 0, 1, 1, 0, 0]));
+    assert!(good(&[2, 0, 1, 255, 1, 2, 0, 14, 5]));
+    assert!(!good(&[]));
+    assert!(!good(&[0]));
+    assert!(!good(&[0, 0]));
+    assert!(!good(&[0, 0, 0, 0]));
+    assert!(!good(&[1, 0, 1, 1, 0, 3]));
+    assert!(!good(&[1, 0, 1, 1, 0, 16]));
+    assert!(!good(&[1, 0, 1, 1, 1, 0]));
+    assert!(!good(&[1, 0, 1, 2, 0, 0]));
+    assert!(!good(&[1, 0, 1, 1, 0]));
+    assert!(!good(&[1, 0, 1, 1, 0, 0, 0]));
+    assert!(!good(&[2, 5, 0, 5, 0, 0, 0]));
+    assert!(!good(&[2, 6, 0, 5, 0, 0, 0]));
+    assert!(good(&[2, 5, 0, 6, 0, 0, 0]));
+    let of_types = |count: u8, parameters: u8| {
+        let mut bytes = vec![count];
+        (0..count).for_each(|number| bytes.extend([number, parameters]));
+        let sum = usize::from(count) * usize::from(parameters);
+        bytes.extend((sum as u16).to_le_bytes());
+        bytes.resize(bytes.len() + sum, 4);
+        bytes
+    };
+    assert!(good(&of_types(32, 32)));
+    assert!(!good(&of_types(33, 1)));
+    assert!(!good(&of_types(1, 33)));
+}
+
+#[test]
+fn order_of_receiving() {
+    let mut spoiled = Table::default();
+    spoiled.slots[0].year = 1;
+    let receive_into = |catalogue: &[u8], table: Table, socket, bytes: &[u8]| {
+        let mut after = table;
+        let answer = receive(catalogue, &mut after, socket, bytes);
+        assert!(after == table);
+        answer
+    };
+    assert_eq!(receive_into(&[], spoiled, 8, &[]), Err(Error::Catalogue));
+    assert_eq!(receive_into(&CATALOGUE, spoiled, 8, &[]), Err(Error::TableNotLawful));
+    let empty = Table::default();
+    assert_eq!(receive_into(&CATALOGUE, empty, 8, &[]), Err(Error::Socket));
+    assert_eq!(receive_into(&CATALOGUE, empty, 7, &[]), Err(Error::PacketIncomplete));
+    let ping = packet_of(PING, &[]);
+    assert_eq!(receive_into(&CATALOGUE, empty, 7, &ping), Err(Error::PacketForDevices));
+    let write = packet_of(DEVICE_WRITE, &[0; 4]);
+    assert_eq!(receive_into(&CATALOGUE, empty, 7, &write), Err(Error::PacketForDevices));
+    assert_eq!(receive_into(&CATALOGUE, empty, 7, &ack(8, 1)), Err(Error::DeviceTypeUnknown));
+    assert_eq!(receive_into(&CATALOGUE, empty, 7, &data(0, &[])), Err(Error::NoDevice));
+}
+
+#[test]
+fn slots_are_taken_in_order_and_again() {
+    let mut hub = Hub::new();
+    for socket in [5, 0, 7, 2] {
+        assert_eq!(hub.receive(socket, &ack(7, socket)), Ok(16));
+    }
+    let sockets: Vec<u8> = hub.table.slots.iter().map(|slot| slot.socket).collect();
+    assert_eq!(sockets, [5, 0, 7, 2]);
+    assert_eq!(hub.receive(1, &ack(7, 99)), Err(13));
+    assert_eq!(hub.receive(1, &ack(7, 5)), Err(14));
+    assert_eq!(hub.receive(1, &ack(8, 5)), Err(12));
+    // A second ACK on a full table: its own UID again, another's, a new one.
+    assert_eq!(hub.receive(7, &data(5, &[1, 0, 0, 0, 1])), Ok(15));
+    assert_eq!(hub.receive(7, &ack(7, 5)), Err(14));
+    assert_eq!(read_parameter(&CATALOGUE, &hub.table, 7, 0), Ok(Some(Value::Int(1))));
+    assert_eq!(hub.receive(7, &ack(7, 7)), Ok(16));
+    assert_eq!(read_parameter(&CATALOGUE, &hub.table, 7, 0), Ok(None));
+    assert_eq!(hub.receive(7, &ack(7, 100)), Ok(16));
+    assert_eq!(hub.table.slots[2].uid[7], 100);
+    // A slot that was left is used again.
+    assert_eq!(hub.detach(0), Ok(()));
+    assert_eq!(hub.table.slots[1], Slot::default());
+    assert_eq!(hub.detach(0), Err(15));
+    assert_eq!(hub.detach(8), Err(10));
+    assert_eq!(hub.receive(4, &ack(7, 0)), Ok(16));
+    assert_eq!(hub.table.slots[1].socket, 4);
+    // Published in rising socket order.
+    let list = hub.published();
+    let order: Vec<u8> = (0..4).map(|row| list[8 + 40 * row + 12]).collect();
+    assert_eq!(order, [2, 4, 5, 7]);
+}
+
+#[test]
+fn a_device_of_zeros_takes_a_slot() {
+    let catalogue = [1, 0, 0, 0, 0];
+    let mut table = Table::default();
+    let zeros = packet_of(ACK, &[0; 10]);
+    assert_eq!(receive(&catalogue, &mut table, 0, &zeros), Ok(16));
+    assert!(table.slots[0].taken);
+    assert_eq!(receive(&catalogue, &mut table, 1, &zeros), Err(Error::UidElsewhere));
+    assert_eq!(detach(&catalogue, &mut table, 0), Ok(()));
+    assert_eq!(table, Table::default());
+}
+
+#[test]
+fn data_is_judged_in_order() {
+    let mut hub = Hub::new();
+    assert_eq!(hub.receive(3, &data(5, &[1, 0, 0, 0, 1])), Err(15));
+    hub.receive(3, &ACK_PACKET).unwrap();
+    // A bit without readable parameter comes first, wherever it stands.
+    assert_eq!(hub.receive(3, &data(1 << 1, &[0; 4])), Err(16));
+    assert_eq!(hub.receive(3, &data(1 << 3, &[])), Err(16));
+    assert_eq!(hub.receive(3, &data(1 << 31 | 5, &[1, 0, 0, 0, 2, 0])), Err(16));
+    assert_eq!(hub.receive(3, &data(5, &[1, 0, 0, 0])), Err(17));
+    assert_eq!(hub.receive(3, &data(5, &[1, 0, 0, 0, 2, 0])), Err(17));
+    assert_eq!(hub.receive(3, &data(5, &[1, 0, 0, 0, 2])), Err(18));
+    assert_eq!(hub.receive(3, &data(0, &[1])), Err(17));
+    let before = hub.table;
+    assert_eq!(hub.receive(3, &data(0, &[])), Ok(10));
+    assert_eq!(hub.table, before);
+    // Named values are replaced, others stay.
+    assert_eq!(hub.receive(3, &data(1, &[0xff; 4])), Ok(14));
+    assert_eq!(hub.receive(3, &data(4, &[0])), Ok(11));
+    assert_eq!(read_parameter(&CATALOGUE, &hub.table, 3, 0), Ok(Some(Value::Int(-1))));
+    assert_eq!(read_parameter(&CATALOGUE, &hub.table, 3, 2), Ok(Some(Value::Flag(false))));
+}
+
+#[test]
+fn logs_change_nothing() {
+    let mut hub = Hub::new();
+    let log = packet_of(LOG, b"hello");
+    assert_eq!(hub.receive(6, &log), Ok(11));
+    assert_eq!(hub.table, Table::default());
+    assert_eq!(hub.receive(8, &log), Err(10));
+}
+
+#[test]
+fn later_bytes_are_not_taken() {
+    let mut hub = Hub::new();
+    let both = [&ACK_PACKET[..], &DATA_PACKET[..]].concat();
+    assert_eq!(hub.receive(3, &both), Ok(16));
+    assert_eq!(read_parameter(&CATALOGUE, &hub.table, 3, 0), Ok(None));
+}
+
+#[test]
+fn lawful_tables() {
+    let catalogue = Catalogue::parse(&CATALOGUE).unwrap();
+    let lawful = |change: fn(&mut Table)| {
+        let mut table = Table::default();
+        table.slots[1] = Slot::new(0, 7, 0, [0; 8]);
+        table.slots[3] = Slot::new(7, 7, 255, [1; 8]);
+        change(&mut table);
+        table.lawful(&catalogue)
+    };
+    assert!(lawful(|_| {}));
+    assert!(lawful(|table| table.slots[1].present[0] = true));
+    assert!(lawful(|table| (table.slots[1].present[2], table.slots[1].bits[2]) = (true, 1)));
+    assert!(!lawful(|table| (table.slots[1].present[2], table.slots[1].bits[2]) = (true, 2)));
+    assert!(!lawful(|table| table.slots[1].present[1] = true));
+    assert!(!lawful(|table| table.slots[1].present[3] = true));
+    assert!(!lawful(|table| table.slots[1].bits[0] = 1));
+    assert!(!lawful(|table| table.slots[1].bits[31] = 1));
+    assert!(!lawful(|table| table.slots[3].socket = 8));
+    assert!(!lawful(|table| table.slots[3].socket = 0));
+    assert!(!lawful(|table| table.slots[3].uid = [0; 8]));
+    assert!(!lawful(|table| table.slots[3].device_type = 8));
+    assert!(!lawful(|table| table.slots[0].socket = 1));
+    assert!(!lawful(|table| table.slots[0].device_type = 7));
+    assert!(!lawful(|table| table.slots[0].year = 1));
+    assert!(!lawful(|table| table.slots[0].uid[7] = 1));
+    assert!(!lawful(|table| table.slots[0].bits[5] = 1));
+    assert!(!lawful(|table| table.slots[0].present[0] = true));
+}
+
+#[test]
+fn order_of_the_other_calls() {
+    let mut spoiled = Table::default();
+    spoiled.slots[0].year = 1;
+    let mut short = [0xa5; LIST_LIMIT - 1];
+    let empty = Table::default();
+    assert_eq!(detach(&[], &mut spoiled, 8), Err(Error::Catalogue));
+    assert_eq!(detach(&CATALOGUE, &mut spoiled, 8), Err(Error::TableNotLawful));
+    assert_eq!(publish(&[], &spoiled, &mut short), Err(Error::Catalogue));
+    assert_eq!(publish(&CATALOGUE, &spoiled, &mut short), Err(Error::TableNotLawful));
+    assert_eq!(publish(&CATALOGUE, &empty, &mut short), Err(Error::BufferTooSmall));
+    assert_eq!(short, [0xa5; LIST_LIMIT - 1]);
+    assert_eq!(read_parameter(&[], &spoiled, 8, 0), Err(Error::Catalogue));
+    assert_eq!(read_parameter(&CATALOGUE, &spoiled, 8, 0), Err(Error::TableNotLawful));
+    assert_eq!(read_parameter(&CATALOGUE, &empty, 8, 0), Err(Error::Socket));
+    assert_eq!(read_parameter(&CATALOGUE, &empty, 7, 99), Err(Error::NoDevice));
+}
+
+#[test]
+fn singles_as_doubles() {
+    assert_eq!(double_of_single(0xff80_0001), 0xfff0_0000_2000_0000);
+    assert_eq!(double_of_single(0x7f80_0000), 0x7ff0_0000_0000_0000);
+    assert_eq!(double_of_single(0xff80_0000), 0xfff0_0000_0000_0000);
+    assert_eq!(double_of_single(0x7fc0_0000), 0x7ff8_0000_0000_0000);
+    assert_eq!(double_of_single(0), 0);
+    assert_eq!(double_of_single(0x8000_0000), 1 << 63);
+    assert_eq!(double_of_single(0x3f80_0000), 0x3ff0_0000_0000_0000);
+    assert_eq!(double_of_single(1), (1023 - 149) << 52);
+    assert_eq!(double_of_single(0x0040_0000), (1023 - 127) << 52);
+    assert_eq!(double_of_single(0x0060_0000), (1023 - 127) << 52 | 1 << 51);
+    assert_eq!(double_of_single(0x7f7f_ffff), (1023 + 127) << 52 | 0x7f_ffff << 29);
+    // Normal numbers by their fields: the exponent's bias changes from 127 to 1023.
+    let mut random = Random::new(9);
+    for _ in 0..100_000 {
+        let bits = random.next() as u32;
+        let (sign, exponent, fraction) = (bits >> 31, bits >> 23 & 0xff, bits & 0x7f_ffff);
+        if (1..255).contains(&exponent) {
+            let high = u64::from(sign) << 63 | u64::from(exponent + 1023 - 127) << 52;
+            assert_eq!(double_of_single(bits), high | u64::from(fraction) << 29);
+        }
+    }
+}
+
+/// The published list by the paper's words, as a tree.
+fn list_by_definition(catalogue: &Catalogue, table: &Table) -> Vec<Element> {
+    let mut slots: Vec<&Slot> = table.slots.iter().filter(|slot| slot.taken).collect();
+    slots.sort_by_key(|slot| slot.socket);
+    let row = |slot: &&Slot| {
+        let mut row = vec![
+            Int(slot.socket.into()),
+            Int(slot.device_type.into()),
+            Blob(slot.uid.to_vec()),
+        ];
+        for index in 0..32 {
+            if slot.present[index] {
+                let kind = catalogue.device(slot.device_type).unwrap().parameter(index).unwrap().kind;
+                let value = match kind {
+                    ValueKind::Int | ValueKind::Bool => Int(slot.bits[index]),
+                    ValueKind::Float => Float(double_of_single(slot.bits[index])),
+                };
+                row.push(List(vec![Int(index as u32), value]));
+            }
+        }
+        List(row)
+    };
+    slots.iter().map(row).collect()
+}
+
+#[test]
+fn published_lists_are_legal() {
+    let mut random = Random::new(10);
+    for _ in 0..5_000 {
+        let catalogue = generate_catalogue::legal(&mut random);
+        let parsed = Catalogue::parse(&catalogue).unwrap();
+        let table = generate_table::lawful(&mut random, &parsed);
+        assert!(table.lawful(&parsed));
+        assert_eq!(Table::from_bytes(&table.to_bytes()), Some(table));
+        let list = published(&catalogue, &table);
+        assert_eq!(list, image(&list_by_definition(&parsed, &table)));
+        let read = decode(&list, &mut [0; ROWS_ROOM], &mut [0; STORE_ROOM]).unwrap();
+        assert_eq!(read.consumed, list.len());
+    }
+}
+
+#[test]
+fn longest_published_list() {
+    let mut catalogue = vec![1, 9, 32, 32, 0];
+    catalogue.extend([5; 32]);
+    let mut table = Table::default();
+    for socket in 0..4 {
+        table.slots[usize::from(socket)] = Slot::new(socket, 9, 0, [socket; 8]);
+        table.slots[usize::from(socket)].present = [true; 32];
+    }
+    assert_eq!(published(&catalogue, &table).len(), 3752);
+}
+
+#[test]
+fn damaged_catalogues() {
+    let mut random = Random::new(11);
+    let refused = (0..5_000)
+        .filter(|_| Catalogue::parse(&generate_catalogue::damaged(&mut random)).is_err())
+        .count();
+    assert!(refused > 3_500, "{refused}");
+}
