@@ -1,0 +1,72 @@
+-- ACK and leaving (01, "The table"), with the refusals of "Refusal numbers".
+use Prim.Native.Nat.{ℕ}
+use mathlib.Core.Bool.{Bool, true, _&&_, not, cond}
+use mathlib.Core.List.{List}
+use lib.Dec.{eqb}
+use lib.ListN.{getD}
+use Rattle.wire.specs.Every.{every}
+use Rattle.wire.specs.Number.{numberAt}
+use Rattle.catalogue.specs.Lookup.{deviceOf}
+use Rattle.table.specs.Slots.{slotCount, freshSlot, emptySlot, slotAt, withSlot, slotOf, freeOf, refused, accepted}
+use Rattle.table.specs.Lawful.{admitted}
+use Rattle.table.specs.declared.Slot.{Slot}
+use Rattle.table.specs.declared.Table.{Table}
+use Rattle.table.specs.declared.Place.{Place}
+use Rattle.table.specs.declared.Place.the-variants.{At, Nowhere}
+use Rattle.table.specs.declared.Answer.{Answer}
+use Rattle.table.specs.declared.Answer.the-variants.{Accepted, Refused}
+use Rattle.table.specs.declared.Update.{Update}
+
+-- ACK's payload, "10: device type, year, 8 bytes of UID"
+abbrev pub deviceIn : List ℕ → ℕ
+deviceIn payload = getD payload 0 0
+
+abbrev pub yearIn : List ℕ → ℕ
+yearIn payload = getD payload 1 0
+
+abbrev pub uidIn : List ℕ → ℕ
+uidIn payload = numberAt 8 payload 2
+
+-- 14, "UID seated at another socket": a taken slot of another socket has it
+unfoldable pub uidElsewhere : ℕ → ℕ → Slot → Bool
+uidElsewhere socket uid s = s .taken && (not (eqb (s .socket) socket) && eqb (s .uid) uid)
+
+unfoldable pub uidFree : Table → ℕ → ℕ → Bool
+uidFree t socket uid = every slotCount (λ i. not (uidElsewhere socket uid (slotAt t i)))
+
+-- "ACK seats the guest in the lowest empty seat; from a socket already seated it replaces the row"
+abbrev pub orFree : Table → Place → Place
+orFree t (At i) = At i
+orFree t Nowhere = freeOf t
+
+abbrev pub placeFor : Table → ℕ → Place
+placeFor t socket = orFree t (slotOf t socket)
+
+-- 13, "socket unseated, all four seats taken"
+abbrev pub settled : Table → Slot → Place → Update
+settled t s (At i) = accepted (withSlot t i s)
+settled t s Nowhere = refused t 13
+
+-- the row that an ACK makes, "with no values held"
+abbrev pub rowOf : ℕ → List ℕ → Slot
+rowOf socket payload = freshSlot true socket (deviceIn payload) (yearIn payload) (uidIn payload)
+
+-- "for ACK then 12, 14, 13"
+unfoldable pub acknowledged : List ℕ → Table → ℕ → List ℕ → Update
+acknowledged c t socket payload =
+    cond (deviceOf c (deviceIn payload) .known)
+    (cond (uidFree t socket (uidIn payload)) (settled t (rowOf socket payload) (placeFor t socket)) (refused t 14))
+    (refused t 12)
+
+-- "Leaving empties the row"; 15, "socket has no guest"
+abbrev pub emptied : Table → Place → Update
+emptied t (At i) = accepted (withSlot t i emptySlot)
+emptied t Nowhere = refused t 15
+
+-- "Leaving: 11, 9, 10, 15"
+abbrev pub ifAdmitted : Answer → Table → Update → Update
+ifAdmitted Accepted t u = u
+ifAdmitted (Refused n) t u = refused t n
+
+unfoldable pub detached : List ℕ → Table → ℕ → Update
+detached c t socket = ifAdmitted (admitted c t socket) t (emptied t (slotOf t socket))

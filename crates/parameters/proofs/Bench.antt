@@ -1,0 +1,51 @@
+-- 01's ACK and DEVICE_DATA under "Catalogue C": "DEVICE_DATA, map 5, 7 and true" gives parameter 0 the value 7 and parameter 2 true.
+use Prim.Native.Nat.{ℕ}
+use mathlib.Core.Path.{_≡_, refl}
+use mathlib.Core.Bool.{true}
+use mathlib.Core.List.{List, [], _∷_}
+use lib.IntN.{pos}
+use lib.ListN.{replicate, set}
+use Rattle.wire.specs.Every.{every}
+use Rattle.catalogue.specs.Format.{parametersBefore}
+use Rattle.catalogue.specs.Lookup.{deviceFrom, parameterOf}
+use Rattle.catalogue.proofs.Bench.{catalogueC}
+use Rattle.value.specs.declared.Value.the-variants.{Int, Bool}
+use Rattle.table.specs.Slots.{freshSlot}
+use Rattle.table.specs.declared.Slot.{Slot}
+use Rattle.table.specs.declared.Answer.the-variants.{Accepted, Refused}
+use Rattle.parameters.specs.Data.{width, offsetOf, allReadable, sizeOf, allFlags, judged, storedTo, stored}
+use Rattle.parameters.specs.Read.{contentOf}
+use Rattle.parameters.specs.declared.Content.the-variants.{Held, Absent}
+
+-- the row that 01's ACK makes on socket 3
+abbrev pub rowC : Slot
+rowC = freshSlot true 3 7 6 0x0807060504030201
+
+abbrev payloadC : List ℕ
+payloadC = 5 ∷ 0 ∷ 0 ∷ 0 ∷ 7 ∷ 0 ∷ 0 ∷ 0 ∷ 1 ∷ []
+
+pub record BenchData : Type 0 where
+  pub is-accepted : judged catalogueC 7 payloadC ≡ Accepted
+  pub words-after : stored catalogueC payloadC rowC .bits ≡ set (set (replicate 32 0) 0 7) 2 1
+  pub int-7 : contentOf catalogueC (stored catalogueC payloadC rowC) 0 ≡ Held (Int (pos 7))
+  pub float-absent : contentOf catalogueC (stored catalogueC payloadC rowC) 1 ≡ Absent
+  pub bool-true : contentOf catalogueC (stored catalogueC payloadC rowC) 2 ≡ Held (Bool true)
+  pub not-readable : judged catalogueC 7 (2 ∷ 0 ∷ 0 ∷ 0 ∷ 0 ∷ 0 ∷ 0 ∷ 0 ∷ []) ≡ Refused 16
+  pub too-long : judged catalogueC 7 (0 ∷ 0 ∷ 0 ∷ 0 ∷ 0 ∷ []) ≡ Refused 17
+  pub no-flag : judged catalogueC 7 (4 ∷ 0 ∷ 0 ∷ 0 ∷ 2 ∷ []) ≡ Refused 18
+  pub empty-map : judged catalogueC 7 (0 ∷ 0 ∷ 0 ∷ 0 ∷ []) ≡ Accepted
+
+pub bench-data : BenchData
+unfolding judged allReadable sizeOf allFlags every width offsetOf storedTo contentOf parameterOf deviceFrom parametersBefore
+bench-data =
+    record {
+      is-accepted = refl;
+      words-after = refl;
+      int-7 = refl;
+      float-absent = refl;
+      bool-true = refl;
+      not-readable = refl;
+      too-long = refl;
+      no-flag = refl;
+      empty-map = refl;
+    }

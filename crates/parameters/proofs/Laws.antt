@@ -1,0 +1,179 @@
+-- DEVICE_DATA replaces one slot's values or is refused, and a lawful table stays lawful.
+use Prim.Native.Nat.{ℕ, _≤_, _<_}
+use mathlib.Core.Path.{_≡_, refl, sym, ap, _∙_}
+use mathlib.Core.Bool.{Bool, true, false, cond, _&&_}
+use mathlib.Core.List.{List}
+use mathlib.Core.Logic.{inl, inr, _≢_}
+use lib.Dec.{eqb, leb}
+use lib.ListN.{length}
+use borrow.Author.Tests.{eq-eqb, leb-true}
+use Rattle.wire.proofs.Chains.{and-true, every-at}
+use Rattle.catalogue.specs.Format.{kindBool}
+use Rattle.catalogue.specs.Lookup.{parameterOf}
+use Rattle.table.specs.Slots.{slotCount, paramCount, ShapedSlot, Shaped, slotAt, slotOf}
+use Rattle.table.specs.Lawful.{presentAt, bitsAt, LawfulSlot, Lawful, lawful}
+use Rattle.table.specs.declared.Slot.{Slot}
+use Rattle.table.specs.declared.Table.{Table}
+use Rattle.table.specs.declared.Place.{Place}
+use Rattle.table.specs.declared.Place.the-variants.{At, Nowhere}
+use Rattle.table.specs.declared.Answer.{Answer}
+use Rattle.table.specs.declared.Answer.the-variants.{Accepted, Refused}
+use Rattle.table.specs.declared.Update.{Update}
+use Rattle.table.proofs.Tests.{never, imply}
+use Rattle.table.proofs.Places.{holds-parts, slot-found}
+use Rattle.table.proofs.Meaning.{lawful-means}
+use Rattle.table.proofs.Keeps.{Apart}
+use Rattle.table.proofs.Outcome.{Changed, Outcome, outcome-others, outcome-refused, outcome-accepted, outcome-lawful, outcome-shaped}
+use Rattle.parameters.specs.Data.{mapOf, named, valueIn, readableIf, allReadable, sizeOf, flagIf, allFlags, judged, stored, appliedIf, appliedTo, appliedAt, applied}
+use Rattle.parameters.proofs.Values.{SameDevice, data-same-device, data-present, data-bits, data-shaped-slot}
+
+abbrev isAccepted : Answer → Bool
+isAccepted Accepted = true
+isAccepted (Refused n) = false
+
+-- what an accepted payload was judged by
+judged-parts :
+    (c : List ℕ) (device : ℕ) (payload : List ℕ) → judged c device payload ≡ Accepted →
+    (allReadable c device (mapOf payload) ≡ true) × (allFlags c device (mapOf payload) payload ≡ true)
+unfolding judged
+judged-parts c device payload =
+    go (allReadable c device (mapOf payload)) (eqb (sizeOf c device (mapOf payload)) (length payload)) (allFlags c device (mapOf payload) payload)
+  where
+    go : (a b d : Bool) → cond a (cond b (cond d Accepted (Refused 18)) (Refused 17)) (Refused 16) ≡ Accepted → (a ≡ true) × (d ≡ true)
+    go true true true e = (refl, refl)
+    go true true false e = never (sym (ap isAccepted e))
+    go true false d e = never (sym (ap isAccepted e))
+    go false b d e = never (sym (ap isAccepted e))
+
+-- the row with the payload's values is lawful where the row was and the payload is accepted
+module _ (c : List ℕ) (payload : List ℕ) (s : Slot) (z : ShapedSlot s) (u : s .taken ≡ true) (h : LawfulSlot c s) where
+  abbrev map : ℕ
+  map = mapOf payload
+
+  abbrev after : Slot
+  after = stored c payload s
+
+  same : SameDevice s after
+  same = data-same-device c payload s
+
+  readable-named :
+      allReadable c (s .device) map ≡ true → (p : ℕ) → p < paramCount → named map p ≡ true → parameterOf c (s .device) p .readable ≡ true
+  unfolding allReadable
+  readable-named r p l n =
+      imply (named map p) (parameterOf c (s .device) p .readable) (every-at paramCount (λ q. readableIf c (s .device) q (named map q)) r p l) n
+
+  flag-named :
+      allFlags c (s .device) map payload ≡ true → (p : ℕ) → p < paramCount → named map p ≡ true →
+      parameterOf c (s .device) p .kind ≡ kindBool → valueIn c (s .device) map payload p ≤ 1
+  unfolding allFlags
+  flag-named f p l n k =
+      leb-true (valueIn c (s .device) map payload p) 1
+      (imply (named map p && eqb (parameterOf c (s .device) p .kind) kindBool) (leb (valueIn c (s .device) map payload p) 1)
+      (every-at paramCount (λ q. flagIf c (s .device) q (named map q) (valueIn c (s .device) map payload q)) f p l)
+      (and-true (named map p) (eqb (parameterOf c (s .device) p .kind) kindBool) n (eq-eqb (parameterOf c (s .device) p .kind) kindBool k)))
+
+  absent-after :
+      (b : Bool) (p : ℕ) → p < paramCount → cond b true (presentAt s p) ≡ false →
+      cond b (valueIn c (s .device) map payload p) (bitsAt s p) ≡ 0
+  absent-after true p l e = never e
+  absent-after false p l e = h .absent-zero p l e
+
+  readable-after :
+      allReadable c (s .device) map ≡ true → (b : Bool) → (p : ℕ) → p < paramCount → named map p ≡ b →
+      cond b true (presentAt s p) ≡ true → parameterOf c (s .device) p .readable ≡ true
+  readable-after r true p l n e = readable-named r p l n
+  readable-after r false p l n e = h .value-readable p l e
+
+  flag-after :
+      allFlags c (s .device) map payload ≡ true → (b : Bool) → (p : ℕ) → p < paramCount → named map p ≡ b →
+      cond b true (presentAt s p) ≡ true → parameterOf c (s .device) p .kind ≡ kindBool →
+      cond b (valueIn c (s .device) map payload p) (bitsAt s p) ≤ 1
+  flag-after f true p l n e k = flag-named f p l n k
+  flag-after f false p l n e k = h .flag-small p l e k
+
+  stored-lawful : judged c (s .device) payload ≡ Accepted → LawfulSlot c (stored c payload s)
+  stored-lawful a =
+      let g = judged-parts c (s .device) payload a in
+      let no : after .taken ≡ false → ⊥ = λ e. never (sym u ∙ sym (same .taken-same) ∙ e) in
+      record {
+        socket-small = λ e. rw (same .socket-same) (h .socket-small u);
+        empty-zeros = λ e. absurd (no e);
+        empty-absent = λ e. absurd (no e);
+        absent-zero =
+            λ p l e. data-bits c payload s z p l ∙ absent-after (named map p) p l (sym (data-present c payload s z p l) ∙ e);
+        type-known = λ e. rw (same .device-same) (h .type-known u);
+        value-readable =
+            λ p l e. rw (same .device-same) (readable-after (g .0) (named map p) p l refl (sym (data-present c payload s z p l) ∙ e));
+        flag-small =
+            λ p l e k.
+            rw (data-bits c payload s z p l)
+            (flag-after (g .1) (named map p) p l refl (sym (data-present c payload s z p l) ∙ e) (rw (same .device-same) at k));
+      }
+
+module _ (c : List ℕ) (t : Table) (socket : ℕ) (payload : List ℕ) where
+  abbrev rowAt : ℕ → Slot
+  rowAt i = stored c payload (slotAt t i)
+
+  at-outcome : (p : Place) → Outcome t p rowAt (appliedAt c t payload p)
+  unfolding appliedTo
+  at-outcome Nowhere = inr (record { number = 15; result = refl })
+  at-outcome (At i) = go (judged c (slotAt t i .device) payload)
+    where
+      go : (a : Answer) → Outcome t (At i) rowAt (appliedIf a t i (rowAt i))
+      go Accepted = inl (record { index = i; place = refl; result = refl })
+      go (Refused n) = inr (record { number = n; result = refl })
+
+  -- LAW: a data packet replaces the values of the socket's slot, or is refused and keeps the table
+  pub data-outcome : Outcome t (slotOf t socket) (λ i. stored c payload (slotAt t i)) (applied c t socket payload)
+  unfolding applied
+  data-outcome = at-outcome (slotOf t socket)
+
+  -- LAW: every slot but the socket's is exactly as it was
+  pub data-others : (j : ℕ) → slotOf t socket ≢ At j → slotAt (applied c t socket payload .table) j ≡ slotAt t j
+  data-others = outcome-others t (slotOf t socket) rowAt (applied c t socket payload) data-outcome
+
+  -- LAW: a refused packet keeps the table: nothing is written before the last refusal is ruled out
+  pub data-refused : (n : ℕ) → applied c t socket payload .answer ≡ Refused n → applied c t socket payload .table ≡ t
+  data-refused = outcome-refused t (slotOf t socket) rowAt (applied c t socket payload) data-outcome
+
+  -- LAW: an accepted packet changes the socket's row as the laws of its values say, and nothing else
+  pub data-accepted :
+      applied c t socket payload .answer ≡ Accepted →
+      Changed t (slotOf t socket) (λ i. stored c payload (slotAt t i)) (applied c t socket payload)
+  data-accepted = outcome-accepted t (slotOf t socket) rowAt (applied c t socket payload) data-outcome
+
+  pub data-shaped : Shaped t → Shaped (applied c t socket payload .table)
+  data-shaped z =
+      outcome-shaped t (slotOf t socket) rowAt (applied c t socket payload) data-outcome z
+      (λ i e. data-shaped-slot c payload (slotAt t i) (z .slots-shaped i (slot-found t socket i e .1)))
+
+  was-judged :
+      (i : ℕ) → slotOf t socket ≡ At i → applied c t socket payload .answer ≡ Accepted → judged c (slotAt t i .device) payload ≡ Accepted
+  unfolding applied appliedTo
+  was-judged i e a = go (judged c (slotAt t i .device) payload) (ap (λ (p : Place). appliedAt c t payload p .answer) (sym e) ∙ a)
+    where
+      go : (b : Answer) → appliedIf b t i (rowAt i) .answer ≡ Accepted → b ≡ Accepted
+      go Accepted q = refl
+      go (Refused n) q = q
+
+  -- LAW: a data packet keeps a lawful table lawful
+  pub data-lawful : Shaped t → lawful c t ≡ true → lawful c (applied c t socket payload .table) ≡ true
+  data-lawful z h =
+      outcome-lawful t (slotOf t socket) rowAt (applied c t socket payload) data-outcome c h
+      (λ i x e.
+      let f = slot-found t socket i e in
+      let o = holds-parts (slotAt t i) socket (f .0) in
+      let m = lawful-means c t h in (
+        stored-lawful c payload (slotAt t i) (z .slots-shaped i (f .1)) (o .0) (m .each-slot i (f .1))
+            (was-judged i e (ap (λ (w : Update). w .answer) (x .result))),
+        apart i (f .1) (o .0) m,
+      ))
+    where
+      apart :
+          (i : ℕ) → i < slotCount → slotAt t i .taken ≡ true → Lawful c t → (j : ℕ) → j < slotCount → j ≢ i →
+          Apart (rowAt i) (slotAt t j)
+      apart i l u m j k ne a b =
+          let same = data-same-device c payload (slotAt t i) in (
+            λ q. m .sockets-differ i j l k (λ x. ne (sym x)) u b (sym (same .socket-same) ∙ q),
+            λ q. m .uids-differ i j l k (λ x. ne (sym x)) u b (sym (same .uid-same) ∙ q),
+          )

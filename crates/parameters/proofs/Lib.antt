@@ -1,0 +1,5 @@
+pub mod Steps
+pub mod Stores
+pub mod Values
+pub mod Laws
+pub mod Bench

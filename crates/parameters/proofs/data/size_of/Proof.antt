@@ -1,0 +1,53 @@
+-- `parameters::data::size_of` meets its contract. Invariant: `at` is where parameter p's value starts, and `rest` is the map without the bits below p.
+use Prim.Native.Nat.{_+_, _*_, _-_, _/_, _^_, _≤_}
+use mathlib.Core.Path.{_≡_, refl, _∙_}
+use native.Mathlib.Omega.{arith}
+use borrow.Author.Needs.{needs}
+use Rattle.table.specs.Slots.{paramCount}
+use Rattle.parameters.specs.Data.{offsetOf, sizeOf}
+use Rattle.parameters.proofs.Steps.{offset-more, rest-more, rest-none}
+use Rattle.parameters.proofs.data.size_of.Statement.{statement}
+use Rattle.parameters.proofs.data.size_of.Tie as tie
+
+abbrev Inv-loop : tie.InvT-loop
+Inv-loop c device map rest₀ at₀ p₀ rest at p = (p ≤ paramCount) × (rest ≡ map / 2 ^ p) × (at ≡ offsetOf c device map p) × (at ≤ 4 + 4 * p)
+
+abbrev μ-loop : tie.MeasureT-loop
+μ-loop c device map rest₀ at₀ p₀ rest at p = paramCount - p
+
+loop-holds : tie.Need-loop-holds Inv-loop μ-loop
+unfolding offsetOf
+loop-holds c = (omega arith, rest-none _, refl, omega arith)
+
+span-if-requires : tie.Need-span-if-requires Inv-loop μ-loop
+span-if-requires c κs = search needs
+
+add-at : tie.Need-add-at Inv-loop μ-loop
+add-at c = search needs
+
+add-p : tie.Need-add-p Inv-loop μ-loop
+add-p c = search needs
+
+loop-less : tie.Need-loop-less Inv-loop μ-loop
+loop-less c = search needs
+
+loop-again : tie.Need-loop-again Inv-loop μ-loop
+loop-again c = (omega arith, rw (rest-more, ← c .before .before .loop .inv .1), rw (offset-more, ← c .before .before .loop .inv .1, ← c .span-if .ensures .0, ← c .before .before .loop .inv .2), omega arith)
+
+returns : tie.Need-returns Inv-loop μ-loop
+unfolding sizeOf
+returns c = let e : c .before .loop .p ≡ paramCount = omega arith in c .before .loop .inv .2 ∙ rw e
+
+pub size-of-spec : {M : Type 1} → statement M
+size-of-spec =
+    tie.close
+    (tie.spec
+    Inv-loop
+    μ-loop
+    loop-holds
+    span-if-requires
+    add-at
+    add-p
+    loop-less
+    loop-again
+    returns)

@@ -1,0 +1,6 @@
+pub mod Steps
+pub mod Tests
+pub mod Places
+pub mod Meaning
+pub mod Keeps
+pub mod Outcome

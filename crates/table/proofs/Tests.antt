@@ -1,0 +1,25 @@
+-- Laws of tests.
+use Prim.Native.Nat.{ℕ, zero, suc, _<_}
+use mathlib.Core.Path.{_≡_, refl, sym, ap}
+use mathlib.Core.Bool.{Bool, true, false, not, cond, _||_}
+use native.Mathlib.Omega.{arith}
+use Rattle.wire.specs.Every.{every}
+use Rattle.wire.proofs.Chains.{and-true}
+
+pub never : {A : Type 0} → true ≡ false → A
+never e = let z : _≡_ {A = ℕ} 0 1 = ap (λ (b : Bool). cond b 0 1) e in absurd (omega arith)
+
+-- "not a, or b" with a is b
+pub imply : (a b : Bool) → (not a || b) ≡ true → a ≡ true → b ≡ true
+imply true b h e = h
+imply false b h e = never (sym e)
+
+pub implied : (a b : Bool) → (a ≡ true → b ≡ true) → (not a || b) ≡ true
+implied true b h = h refl
+implied false b h = refl
+
+-- what holds at each index holds at every one
+pub every-of : (n : ℕ) (test : ℕ → Bool) → ((i : ℕ) → i < n → test i ≡ true) → every n test ≡ true
+unfolding every
+every-of zero test h = refl
+every-of (suc n) test h = and-true (every n test) (test n) (every-of n test (λ i l. h i (omega arith))) (h n (omega arith))

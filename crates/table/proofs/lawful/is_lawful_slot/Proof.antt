@@ -1,0 +1,63 @@
+-- `table::lawful::is_lawful_slot` meets its contract, by the tests that lead to each answer.
+use borrow.Author.Needs.{needs}
+use borrow.Author.Tests.{eq-eqb, ne-eqb, lt-ltb, le-ltb}
+use Rattle.table.specs.Lawful.{slotLawful}
+use Rattle.table.proofs.lawful.is_lawful_slot.Statement.{statement}
+use Rattle.table.proofs.lawful.is_lawful_slot.Tie as tie
+
+find-device-requires : tie.Need-find-device-requires
+find-device-requires c κs = search needs
+
+are-lawful-values-requires : tie.Need-are-lawful-values-requires
+are-lawful-values-requires c κs = search needs
+
+returns : tie.Need-returns
+unfolding slotLawful
+returns c = rw (lt-ltb _ _ (c .before .before .before .if2 .taken), ← c .before .before .find-device .ensures, c .before .if3 .taken, c .are-lawful-values .ensures, c .before .before .before .before .before .if1 .taken)
+
+returns-2 : tie.Need-returns-2
+unfolding slotLawful
+returns-2 c = rw (c .before .before .before .before .if1 .taken, lt-ltb _ _ (c .before .before .if2 .taken), ← c .before .find-device .ensures, c .if3 .left)
+
+returns-3 : tie.Need-returns-3
+unfolding slotLawful
+returns-3 c = rw (c .before .before .if1 .taken, le-ltb _ _ (c .if2 .left))
+
+holds-nothing-requires : tie.Need-holds-nothing-requires
+holds-nothing-requires c κs = search needs
+
+returns-4 : tie.Need-returns-4
+unfolding slotLawful
+returns-4 c = rw (eq-eqb _ _ (c .before .before .before .before .before .before .before .if4 .taken), eq-eqb _ _ (c .before .before .before .before .before .if5 .taken), eq-eqb _ _ (c .before .before .before .if6 .taken), eq-eqb _ _ (c .before .if7 .taken), c .holds-nothing .ensures, c .before .before .before .before .before .before .before .before .before .if1 .left)
+
+returns-5 : tie.Need-returns-5
+unfolding slotLawful
+returns-5 c = rw (c .before .before .before .before .before .before .before .before .if1 .left, eq-eqb _ _ (c .before .before .before .before .before .before .if4 .taken), eq-eqb _ _ (c .before .before .before .before .if5 .taken), eq-eqb _ _ (c .before .before .if6 .taken), ne-eqb _ _ (c .if7 .left))
+
+returns-6 : tie.Need-returns-6
+unfolding slotLawful
+returns-6 c = rw (c .before .before .before .before .before .before .if1 .left, eq-eqb _ _ (c .before .before .before .before .if4 .taken), eq-eqb _ _ (c .before .before .if5 .taken), ne-eqb _ _ (c .if6 .left))
+
+returns-7 : tie.Need-returns-7
+unfolding slotLawful
+returns-7 c = rw (c .before .before .before .before .if1 .left, eq-eqb _ _ (c .before .before .if4 .taken), ne-eqb _ _ (c .if5 .left))
+
+returns-8 : tie.Need-returns-8
+unfolding slotLawful
+returns-8 c = rw (c .before .before .if1 .left, ne-eqb _ _ (c .if4 .left))
+
+pub is-lawful-slot-spec : {M : Type 1} → statement M
+is-lawful-slot-spec =
+    tie.close
+    (tie.spec
+    find-device-requires
+    are-lawful-values-requires
+    returns
+    returns-2
+    returns-3
+    holds-nothing-requires
+    returns-4
+    returns-5
+    returns-6
+    returns-7
+    returns-8)

@@ -1,0 +1,97 @@
+-- The table and its slots ("Sockets are 0 to 7, seats four. A row holds socket, device type, year, UID and, for each of 32 parameters, absent or a value").
+use Prim.Native.Nat.{ℕ, zero, suc, _+_, _<_}
+use mathlib.Core.Path.{_≡_}
+use mathlib.Core.Bool.{Bool, false, _&&_, cond}
+use mathlib.Core.List.{[]}
+use lib.Dec.{eqb}
+use lib.ListN.{length, getD, set, replicate}
+use Rattle.table.specs.declared.Slot.{Slot}
+use Rattle.table.specs.declared.Table.{Table}
+use Rattle.table.specs.declared.Place.{Place}
+use Rattle.table.specs.declared.Place.the-variants.{At, Nowhere}
+use Rattle.table.specs.declared.Answer.the-variants.{Accepted, Refused}
+use Rattle.table.specs.declared.Update.{Update}
+
+-- "seats four"
+abbrev pub slotCount : ℕ
+slotCount = 4
+
+-- "Sockets are 0 to 7"
+abbrev pub socketCount : ℕ
+socketCount = 8
+
+-- "each of 32 parameters"
+abbrev pub paramCount : ℕ
+paramCount = 32
+
+-- a row with no values held; absent values are zeros
+abbrev pub freshSlot : Bool → ℕ → ℕ → ℕ → ℕ → Slot
+freshSlot taken socket device year uid =
+    record {
+      taken = taken;
+      socket = socket;
+      device = device;
+      year = year;
+      uid = uid;
+      present = replicate paramCount false;
+      bits = replicate paramCount 0;
+    }
+
+-- "empty seats .. are stored as zeros"
+abbrev pub emptySlot : Slot
+emptySlot = freshSlot false 0 0 0 0
+
+abbrev pub emptyTable : Table
+emptyTable = record { slots = replicate slotCount emptySlot }
+
+-- what the types say: each slot has 32 parameters, and there are four slots
+pub record ShapedSlot (s : Slot) : Type 0 where
+  pub presents : length (s .present) ≡ paramCount
+  pub words : length (s .bits) ≡ paramCount
+
+-- what an index past the last slot reads; no call's answer depends on it
+abbrev pub noSlot : Slot
+noSlot = record { taken = false; socket = 0; device = 0; year = 0; uid = 0; present = []; bits = [] }
+
+abbrev pub slotAt : Table → ℕ → Slot
+slotAt t i = getD (t .slots) i noSlot
+
+pub record Shaped (t : Table) : Type 0 where
+  pub all-slots : length (t .slots) ≡ slotCount
+  pub slots-shaped : (i : ℕ) → i < slotCount → ShapedSlot (slotAt t i)
+
+-- the table with another row in slot i
+abbrev pub withSlot : Table → ℕ → Slot → Table
+withSlot t i s = record { slots = set (t .slots) i s }
+
+-- the slot is taken by the device on this socket
+unfoldable pub holds : Slot → ℕ → Bool
+holds s socket = s .taken && eqb (s .socket) socket
+
+-- the first of the n slots from slot i on that holds the socket's device
+unfoldable pub slotFrom : ℕ → Table → ℕ → ℕ → Place
+slotFrom zero t socket i = Nowhere
+slotFrom (suc n) t socket i = cond (holds (slotAt t i) socket) (At i) (slotFrom n t socket (i + 1))
+
+abbrev pub slotOf : Table → ℕ → Place
+slotOf t socket = slotFrom slotCount t socket 0
+
+-- "the lowest empty seat", of the n slots from slot i on
+unfoldable pub freeFrom : ℕ → Table → ℕ → Place
+freeFrom zero t i = Nowhere
+freeFrom (suc n) t i = cond (slotAt t i .taken) (freeFrom n t (i + 1)) (At i)
+
+abbrev pub freeOf : Table → Place
+freeOf t = freeFrom slotCount t 0
+
+-- a place is one of the table's slots
+abbrev pub Within : Place → Type 0
+Within Nowhere = Unit {0}
+Within (At i) = i < slotCount
+
+-- "Each refusal returns its number"; "Table .. keep their old contents"
+abbrev pub refused : Table → ℕ → Update
+refused t n = record { answer = Refused n; table = t }
+
+abbrev pub accepted : Table → Update
+accepted t = record { answer = Accepted; table = t }

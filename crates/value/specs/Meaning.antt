@@ -1,0 +1,41 @@
+-- "A held value is one of a whole number, a single float or a flag", and a single float as the double that is published.
+use Prim.Native.Nat.{ℕ, _+_, _*_, _/_, _%_}
+use mathlib.Core.Bool.{cond}
+use lib.Dec.{ltb, leb, eqb}
+use lib.IntN.{ℤ}
+use lib.Ieee.{binary32, binary64, ofBits, toBits}
+use mir.Syntax.{w32}
+use mir.Val.{toZ}
+use Rattle.catalogue.specs.Format.{kindInt, kindFloat}
+use Rattle.value.specs.declared.Value.{Value}
+use Rattle.value.specs.declared.Value.the-variants.{Int, Float, Bool, Nan}
+
+-- "INT is 4 bytes, low byte first, signed": the signed number of 32 bits
+abbrev pub intOf : ℕ → ℤ
+intOf bits = toZ w32 bits
+
+-- the parts of a single: sign, the bits below it, fraction
+abbrev pub signOf : ℕ → ℕ
+signOf bits = bits / 0x8000_0000
+
+abbrev pub lowOf : ℕ → ℕ
+lowOf bits = bits % 0x8000_0000
+
+abbrev pub fractionOf : ℕ → ℕ
+fractionOf bits = bits % 0x80_0000
+
+-- the bits of an infinity without its sign; below them the finite numbers, above them the NaNs
+abbrev pub infinity : ℕ
+infinity = 0x7f80_0000
+
+-- "0 INT, 1 FLOAT, 2 BOOL": the value that 32 bits hold; a NaN is kept by its bits
+abbrev pub valueOf : ℕ → ℕ → Value
+valueOf kind bits =
+    cond (eqb kind kindInt) (Int (intOf bits))
+    (cond (eqb kind kindFloat) (cond (leb (lowOf bits) infinity) (Float (ofBits binary32 bits)) (Nan bits)) (Bool (eqb bits 1)))
+
+-- "FLOAT becomes the double of exactly the same value, and infinities and NaNs keep the sign, their fraction moved 29 bits up"
+abbrev pub widened : ℕ → ℕ
+widened bits =
+    cond (ltb (lowOf bits) infinity) (toBits binary64 (ofBits binary32 bits))
+    (signOf bits * 0x8000_0000_0000_0000 + 0x7ff0_0000_0000_0000 + fractionOf bits * 0x2000_0000)

@@ -1,0 +1,55 @@
+// A held value: what its 32 bits mean by the parameter's kind, and a single float as a double.
+ghost use mathlib.Core.Path.{_≡_};
+ghost use Rattle.value.specs.Meaning.{intOf, valueOf, widened};
+
+// The lowest pattern without the sign that is an infinity or a NaN.
+const INFINITY: u32 = 0x7f80_0000;
+
+// A whole number, a single float or a flag. A NaN's bits are a case of their own: a float of the language does not keep them.
+pub enum Value {
+    Int(i32),
+    Float(f32),
+    Bool(bool),
+    Nan(u32),
+}
+
+// The signed number of 32 bits.
+pub fn int_of(bits: u32) -> i32
+    ensures { λ r. ⌜ r ≡ intOf bits ⌝ }
+{
+    if bits < 0x8000_0000 {
+        return bits as i32;
+    }
+    let m = 0xffff_ffff - bits;
+    !(m as i32)
+}
+
+// The value that 32 bits hold for a parameter of this kind.
+pub fn value_of(kind: u8, bits: u32) -> Value
+    ensures { λ r. ⌜ r ≡ valueOf kind bits ⌝ }
+{
+    if kind == catalogue::INT {
+        return Value::Int(int_of(bits));
+    }
+    if kind == catalogue::FLOAT {
+        if bits % 0x8000_0000 <= INFINITY {
+            return Value::Float(f32::from_bits(bits));
+        }
+        return Value::Nan(bits);
+    }
+    Value::Bool(bits == 1)
+}
+
+// The bits of the double that a single's bits become.
+pub fn widen(bits: u32) -> u64
+    ensures { λ r. ⌜ r ≡ widened bits ⌝ }
+{
+    let sign = bits / 0x8000_0000;
+    let low = bits % 0x8000_0000;
+    if low < INFINITY {
+        return f64::to_bits(f32::from_bits(bits) as f64);
+    }
+    (sign as u64) * 0x8000_0000_0000_0000
+        + 0x7ff0_0000_0000_0000
+        + ((low % 0x80_0000) as u64) * 0x2000_0000
+}
