@@ -1,0 +1,140 @@
+-- Rows and store describe a list exactly where they are its rows and its store.
+use Prim.Native.Nat.{ℕ, zero, suc, _+_}
+use mathlib.Core.Path.{_≡_, refl, sym, ap, _∙_}
+use mathlib.Core.Bool.{Bool, true, false, cond, _&&_}
+use mathlib.Core.List.{List, [], _∷_, _++_, append-assoc, append-nil}
+use mathlib.Core.Option.{Option, some}
+use mathlib.Core.Option as option
+use native.Mathlib.Omega.{arith}
+use lib.Dec.{eqb}
+use lib.ListN.{length, drop}
+use borrow.Author.Tests.{eq-eqb, eqb-true}
+use Rattle.list.specs.Kind.{kindOf}
+use Rattle.list.specs.Tree.{Value, Elements, int, vocab, float, str, blob, none, value, list, count}
+use Rattle.list.specs.Rows.{valueStore, elementStore, valueRow, listRow, elementRows, listRows, listStore}
+use Rattle.list_encode.specs.Described.{firstOf, restOf, elementsOf, outermost, natural, allowed, same, describes, described}
+use Rattle.list_encode.proofs.Rows.{clash, both, part-is}
+use Rattle.list_encode.proofs.Accepted.{past-value, past-list}
+
+-- the elements of a list, then others
+unfoldable joined : Elements → Elements → Elements
+joined none fs = fs
+joined (value v es) fs = value v (joined es fs)
+joined (list i es) fs = list i (joined es fs)
+
+first-joined : (es fs : Elements) → firstOf (count es) (joined es fs) ≡ es
+unfolding joined
+first-joined none fs = refl
+first-joined (value v es) fs = ap (value v) (first-joined es fs)
+first-joined (list i es) fs = ap (list i) (first-joined es fs)
+
+rest-joined : (es fs : Elements) → restOf (count es) (joined es fs) ≡ fs
+unfolding joined
+rest-joined none fs = refl
+rest-joined (value v es) fs = rest-joined es fs
+rest-joined (list i es) fs = rest-joined es fs
+
+joined-none : (es : Elements) → joined es none ≡ es
+unfolding joined
+joined-none none = refl
+joined-none (value v es) = ap (value v) (joined-none es)
+joined-none (list i es) = ap (list i) (joined-none es)
+
+value-read : (v : Value) (store rows : List ℕ) (used : ℕ) (rest : List ℕ) → drop used store ≡ valueStore v ++ rest
+    → elementsOf store (valueRow used v ++ rows) ≡ value v (elementsOf store rows)
+unfolding elementsOf kindOf
+value-read (int n) store rows used rest h = refl
+value-read (vocab n) store rows used rest h = refl
+value-read (float low high) store rows used rest h = refl
+value-read (str bs) store rows used rest h = rw (part-is store used bs rest h)
+value-read (blob bs) store rows used rest h = rw (part-is store used bs rest h)
+
+list-read : (store rows : List ℕ) (n : ℕ) → elementsOf store (256 ∷ n ∷ 0 ∷ rows) ≡ list (firstOf n (elementsOf store rows)) (restOf n (elementsOf store rows))
+unfolding elementsOf
+list-read store rows n = refl
+
+rows-read : (es : Elements) (store rows : List ℕ) (used : ℕ) (rest : List ℕ) → drop used store ≡ elementStore es ++ rest
+    → elementsOf store (elementRows used es ++ rows) ≡ joined es (elementsOf store rows)
+unfolding joined
+rows-read none store rows used rest h = refl
+rows-read (value v es) store rows used rest h =
+    let p = past-value v es store used rest h in
+    let u : ℕ = used + length (valueStore v) in
+    rw (append-assoc (valueRow used v) (elementRows u es) rows)
+    (value-read v store (elementRows u es ++ rows) used (elementStore es ++ rest) (p .0) ∙ ap (value v) (rows-read es store rows u rest (p .1)))
+rows-read (list i es) store rows used rest h =
+    let p = past-list i es store used rest h in
+    let u : ℕ = used + length (elementStore i) in
+    let r : List ℕ = elementRows u es ++ rows in
+    let t : elementsOf store (elementRows used i ++ r) ≡ joined i (joined es (elementsOf store rows)) =
+      rows-read i store r used (elementStore es ++ rest) (p .0) ∙ ap (joined i) (rows-read es store rows u rest (p .1)) in
+    rw (append-assoc (elementRows used i) (elementRows u es) rows)
+    (list-read store (elementRows used i ++ r) (count i) ∙ rw (t, first-joined i _, rest-joined i _))
+
+nothing-read : (store : List ℕ) → elementsOf store [] ≡ none
+unfolding elementsOf
+nothing-read store = refl
+
+-- the outermost list of a list's rows is that list
+pub read-back : (es : Elements) → outermost (elementsOf (listStore es) (listRows es)) ≡ es
+read-back es =
+    let s : List ℕ = listStore es in
+    let t : elementsOf s (elementRows 0 es) ≡ es =
+      ap (elementsOf s) (sym (append-nil (elementRows 0 es))) ∙ rows-read es s [] 0 [] (sym (append-nil s)) ∙ ap (joined es) (nothing-read s) ∙ joined-none es in
+    let f : joined es none ≡ es = joined-none es in
+    ap outermost (list-read s (elementRows 0 es) (count es)) ∙ rw t (ap (firstOf (count es)) (sym f) ∙ first-joined es none)
+
+pub same-refl : (xs : List ℕ) → same xs xs ≡ true
+unfolding same
+same-refl [] = refl
+same-refl (x ∷ xs) = rw (eq-eqb x x refl) (same-refl xs)
+
+same-equal : (xs ys : List ℕ) → same xs ys ≡ true → xs ≡ ys
+unfolding same
+same-equal [] [] h = refl
+same-equal [] (y ∷ ys) h = clash h
+same-equal (x ∷ xs) [] h = clash h
+same-equal (x ∷ xs) (y ∷ ys) h =
+    let p = both (eqb x y) _ h in
+    let e : x ≡ y = eqb-true x y (p .0) in
+    let f : xs ≡ ys = same-equal xs ys (p .1) in
+    rw (e, f)
+
+-- a list is described by its rows and its store
+pub described-complete : (es : Elements) → natural (count es) ≡ true → allowed es ≡ true → described (listRows es) (listStore es) ≡ some es
+unfolding described describes
+described-complete es n l = rw (read-back es, same-refl (listRows es), same-refl (listStore es), n, l)
+
+pub record Told (rows store : List ℕ) (es : Elements) : Type 0 where
+  pub rows-are : rows ≡ listRows es
+  pub store-is : store ≡ listStore es
+  pub few : natural (count es) ≡ true
+  pub fine : allowed es ≡ true
+
+describes-told : (rows store : List ℕ) (es : Elements) → describes rows store es ≡ true → Told rows store es
+unfolding describes
+describes-told rows store es h =
+    let x = both (same rows (listRows es)) _ h in
+    let y = both (same store (listStore es)) _ (x .1) in
+    let z = both (natural (count es)) _ (y .1) in
+    record { rows-are = same-equal _ _ (x .0); store-is = same-equal _ _ (y .0); few = z .0; fine = z .1 }
+
+-- rows and store that describe a list are its rows and its store
+pub described-sound : (rows store : List ℕ) (es : Elements) → described rows store ≡ some es → Told rows store es
+unfolding described
+described-sound rows store es = go (describes rows store (outermost (elementsOf store rows))) refl
+  where
+    go : (b : Bool) → describes rows store (outermost (elementsOf store rows)) ≡ b → cond b (some (outermost (elementsOf store rows))) option.none ≡ some es → Told rows store es
+    go true e h =
+        let f : outermost (elementsOf store rows) ≡ es = cc in
+        describes-told rows store es (ap (describes rows store) (sym f) ∙ e)
+    go false e h = let z : _≡_ {A = ℕ} 0 1 = cc in absurd (omega arith)
+
+-- rows and store that are those of no list describe none
+pub described-none : (rows store : List ℕ) → ((es : Elements) → Told rows store es → ⊥) → described rows store ≡ option.none
+unfolding described
+described-none rows store never = go (describes rows store (outermost (elementsOf store rows))) refl
+  where
+    go : (b : Bool) → describes rows store (outermost (elementsOf store rows)) ≡ b → cond b (some (outermost (elementsOf store rows))) option.none ≡ option.none
+    go true e = absurd (never _ (describes-told rows store _ e))
+    go false e = refl

@@ -1,0 +1,9 @@
+pub mod Rows
+pub mod Shapes
+pub mod Walks
+pub mod Emits
+pub mod Accepted
+pub mod Described
+pub mod Depths
+pub mod Emitted
+pub mod Encoding

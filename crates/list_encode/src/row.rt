@@ -1,0 +1,65 @@
+// One row of a list: a code and two numbers.
+use list::LIST_CODE;
+use list::Kind;
+use list::KindFound;
+ghost use Prim.Native.Nat.{_+_, _≤_, _<_, _^_};
+ghost use mathlib.Core.Path.{_≡_};
+ghost use lib.ListN.{length};
+ghost use Rattle.list_encode.specs.Row.{rowAt, gained, kindStored, stored};
+
+pub struct Row {
+    pub code: u32,
+    pub second: u32,
+    pub third: u32,
+}
+
+// The row whose first number stands at `at`.
+pub fn row_at(rows: &[u32], at: usize) -> Row
+    requires { ⌜ at + 3 ≤ length (now rows) ⌝ }
+    ensures { λ r. ⌜ r ≡ rowAt (now (rows .entry)) at ⌝ }
+{
+    Row {
+        code: rows[at],
+        second: rows[at + 1],
+        third: rows[at + 2],
+    }
+}
+
+pub fn wide(x: u32) -> usize
+    ensures { λ r. ⌜ (r ≡ x) × (r < 2 ^ 32) ⌝ }
+{
+    x as usize
+}
+
+// The elements that a row adds to those still wanted.
+pub fn gained_by(row: Row) -> usize
+    ensures { λ r. ⌜ (r ≡ gained row) × (r < 2 ^ 32) ⌝ }
+{
+    if row.code == LIST_CODE {
+        return wide(row.second);
+    }
+    0
+}
+
+// The bytes of the store that a row uses.
+pub fn stored_by(row: Row) -> usize
+    ensures { λ r. ⌜ (r ≡ stored row) × (r < 2 ^ 32) ⌝ }
+{
+    let found = Kind::of_code(row.code);
+    match found {
+        KindFound::Is(kind) => kind_stored(kind, row.third),
+        KindFound::Unknown => 0,
+    }
+}
+
+fn kind_stored(kind: Kind, third: u32) -> usize
+    ensures { λ r. ⌜ (r ≡ kindStored third kind) × (r < 2 ^ 32) ⌝ }
+{
+    match kind {
+        Kind::Int => 0,
+        Kind::Float => 0,
+        Kind::Str => wide(third),
+        Kind::Blob => wide(third),
+        Kind::Vocab => 0,
+    }
+}
