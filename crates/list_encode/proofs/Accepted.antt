@@ -1,16 +1,15 @@
 -- Rows and store have the shape of a list exactly where they are the rows and the store of a tree.
-use Prim.Native.Nat.{ℕ, zero, suc, _+_, _-_, _≤_, _<_}
+use Prim.Native.Nat.{ℕ, zero, suc, _+_, _-_, _≤_}
 use mathlib.Core.Path.{_≡_, refl, sym, ap, _∙_}
-use mathlib.Core.Bool.{Bool, true, false, not, cond, _&&_}
+use mathlib.Core.Bool.{Bool, true, false, cond, _&&_}
 use mathlib.Core.Logic.{_⊎_, inl, inr, ⊎-elim}
 use mathlib.Core.List.{List, [], _∷_, _++_, append-assoc, append-nil}
 use native.Mathlib.Omega.{arith}
 use native.Mathlib.Nat.{add-zero, zero-add}
-use lib.Dec.{eqb, ltb, leb}
+use lib.Dec.{eqb}
 use lib.ListN.{length, getD, drop, length-append, length-drop}
 use lib.Seq.{drop-length}
 use borrow.Author.Tests.{eq-eqb, le-leb, eqb-true}
-use Rattle.wire.specs.Zero.{hasZero}
 use Rattle.list.specs.declared.Kind.{Kind}
 use Rattle.list.specs.declared.Kind.the-variants.{Int, Float, Str, Blob, Vocab}
 use Rattle.list.specs.declared.KindFound.{KindFound}
@@ -18,11 +17,12 @@ use Rattle.list.specs.declared.KindFound.the-variants.{Is, Unknown}
 use Rattle.list.specs.Kind.{codeOf, kindOf, listCode}
 use Rattle.list.specs.Tree.{Value, Elements, int, vocab, float, str, blob, none, value, list, count}
 use Rattle.list.specs.Rows.{valueStore, elementStore, valueRow, listRow, elementRows, listRows, listStore}
+use Rattle.list.proofs.Codes.{code-of-kind}
 use Rattle.list_encode.specs.declared.row.Row.{Row}
 use Rattle.list_encode.specs.Described.{part, natural, allowedValue, allowed}
-use Rattle.list_encode.specs.Row.{row, gained, foundStored, stored}
+use Rattle.list_encode.specs.Row.{row, gained, stored}
 use Rattle.list_encode.specs.Shape.{placed, textual, kindFits, foundFits, rowFits, shape, listShape}
-use Rattle.list_encode.proofs.Rows.{clash, both, behind, code-of-kind, part-length, part-front, part-is}
+use Rattle.list_encode.proofs.Rows.{clash, both, behind, part-length, part-front, part-is}
 use Rattle.list_encode.proofs.Shapes.{placed-parts, placed-inside, fits-inside}
 
 -- the store behind a value, and behind a list
@@ -82,7 +82,7 @@ rows-fit (value v es) store rows want used rest l h =
     let u : ℕ = used + length (valueStore v) in
     rw (n, append-assoc (valueRow used v) (elementRows u es) rows, ← used-value v es used)
     (value-fits v store (elementRows u es ++ rows) (count es + want) used (elementStore es ++ rest) (x .0) (p .0)
-      ∙ rows-fit es store rows want u rest (x .1) (p .1))
+    ∙ rows-fit es store rows want u rest (x .1) (p .1))
 rows-fit (list i es) store rows want used rest l h =
     let n : suc (count es) + want ≡ suc (count es + want) = omega arith in
     let m : count es + want + count i ≡ count i + (count es + want) = omega arith in
@@ -92,8 +92,8 @@ rows-fit (list i es) store rows want used rest l h =
     let u : ℕ = used + length (elementStore i) in
     rw (n, append-assoc (elementRows used i) (elementRows u es) rows, ← used-list i es used)
     (list-fits store (elementRows used i ++ (elementRows u es ++ rows)) (count i) (count es + want) used (x .0)
-      ∙ rw m (rows-fit i store (elementRows u es ++ rows) (count es + want) used (elementStore es ++ rest) (y .0) (p .0)
-      ∙ rows-fit es store rows want u rest (y .1) (p .1)))
+    ∙ rw m (rows-fit i store (elementRows u es ++ rows) (count es + want) used (elementStore es ++ rest) (y .0) (p .0)
+    ∙ rows-fit es store rows want u rest (y .1) (p .1)))
 
 shape-end : (store : List ℕ) (used : ℕ) → used ≡ length store → shape store [] 0 used ≡ true
 unfolding shape
@@ -136,11 +136,15 @@ cut (suc n) m used (value v es) h l =
     let u : ℕ = used + length (valueStore v) in
     let r = cut n m u es (omega arith) (x .1) in
     record {
-      i = value v (r .i); j = r .j; first = ap suc (r .first); second = r .second;
-      allowed-i = and-both (allowedValue v) (allowed (r .i)) (x .0) (r .allowed-i); allowed-j = r .allowed-j;
+      i = value v (r .i);
+      j = r .j;
+      first = ap suc (r .first);
+      second = r .second;
+      allowed-i = and-both (allowedValue v) (allowed (r .i)) (x .0) (r .allowed-i);
+      allowed-j = r .allowed-j;
       rows-are = ap (λ (z : List ℕ). valueRow used v ++ z) (r .rows-are)
-        ∙ rw (used-value v (r .i) used) (sym (append-assoc (valueRow used v) (elementRows u (r .i)) _));
-      store-is = ap (λ (z : List ℕ). valueStore v ++ z) (r .store-is) ∙ sym (append-assoc (valueStore v) (elementStore (r .i)) (elementStore (r .j)))
+          ∙ rw (used-value v (r .i) used) (sym (append-assoc (valueRow used v) (elementRows u (r .i)) _));
+      store-is = ap (λ (z : List ℕ). valueStore v ++ z) (r .store-is) ∙ sym (append-assoc (valueStore v) (elementStore (r .i)) (elementStore (r .j)));
     }
 cut (suc n) m used (list a es) h l =
     let x = both (natural (count a)) _ l in
@@ -148,11 +152,15 @@ cut (suc n) m used (list a es) h l =
     let u : ℕ = used + length (elementStore a) in
     let r = cut n m u es (omega arith) (y .1) in
     record {
-      i = list a (r .i); j = r .j; first = ap suc (r .first); second = r .second;
-      allowed-i = and-both (natural (count a)) _ (x .0) (and-both (allowed a) (allowed (r .i)) (y .0) (r .allowed-i)); allowed-j = r .allowed-j;
+      i = list a (r .i);
+      j = r .j;
+      first = ap suc (r .first);
+      second = r .second;
+      allowed-i = and-both (natural (count a)) _ (x .0) (and-both (allowed a) (allowed (r .i)) (y .0) (r .allowed-i));
+      allowed-j = r .allowed-j;
       rows-are = ap (λ (z : List ℕ). listRow a ++ (elementRows used a ++ z)) (r .rows-are)
-        ∙ rw (used-list a (r .i) used) (ap (λ (z : List ℕ). listRow a ++ z) (sym (append-assoc (elementRows used a) (elementRows u (r .i)) _)));
-      store-is = ap (λ (z : List ℕ). elementStore a ++ z) (r .store-is) ∙ sym (append-assoc (elementStore a) (elementStore (r .i)) (elementStore (r .j)))
+          ∙ rw (used-list a (r .i) used) (ap (λ (z : List ℕ). listRow a ++ z) (sym (append-assoc (elementRows used a) (elementRows u (r .i)) _)));
+      store-is = ap (λ (z : List ℕ). elementStore a ++ z) (r .store-is) ∙ sym (append-assoc (elementStore a) (elementStore (r .i)) (elementStore (r .j)));
     }
 
 module _ (s : List ℕ) where
@@ -198,12 +206,24 @@ module _ (s : List ℕ) where
   value-row used r Str e u h =
       let x = both (placed s used (r .second) (r .third)) _ h in
       let b = bytes-at used (r .second) (r .third) u (x .0) in
-      record { v = str (part s used (r .third)); ok = and-both _ _ (b .small) (x .1); row-is = three _ _ _ _ _ _ [] e (b .at-used) (b .size);
-        bytes = b .front; no-gain = rw e; takes = rw e (b .size) }
+      record {
+        v = str (part s used (r .third));
+        ok = and-both _ _ (b .small) (x .1);
+        row-is = three _ _ _ _ _ _ [] e (b .at-used) (b .size);
+        bytes = b .front;
+        no-gain = rw e;
+        takes = rw e (b .size);
+      }
   value-row used r Blob e u h =
       let b = bytes-at used (r .second) (r .third) u h in
-      record { v = blob (part s used (r .third)); ok = b .small; row-is = three _ _ _ _ _ _ [] e (b .at-used) (b .size);
-        bytes = b .front; no-gain = rw e; takes = rw e (b .size) }
+      record {
+        v = blob (part s used (r .third));
+        ok = b .small;
+        row-is = three _ _ _ _ _ _ [] e (b .at-used) (b .size);
+        bytes = b .front;
+        no-gain = rw e;
+        takes = rw e (b .size);
+      }
 
   found-row : (used : ℕ) (r : Row) (found : KindFound) → kindOf (r .code) ≡ found → used ≤ length s → foundFits s used (r .second) (r .third) found ≡ true → ValueRow used r
   found-row used r (Is k) e u h = value-row used r k (code-of-kind (r .code) k e) u h
@@ -238,7 +258,7 @@ module _ (s : List ℕ) where
         many = ap suc (x .many ∙ rw (w .no-gain) (add-zero want));
         fine = and-both (allowedValue (w .v)) (allowed (x .tree)) (w .ok) (x .fine);
         rows-are = ap (λ (z : List ℕ). z ++ rows) (w .row-is) ∙ ap (λ (z : List ℕ). valueRow used (w .v) ++ z) (x .rows-are ∙ ap (λ (z : ℕ). elementRows (used + z) (x .tree)) (w .takes));
-        store-is = w .bytes ∙ ap (λ (z : List ℕ). valueStore (w .v) ++ z) (ap (λ (k : ℕ). drop (used + k) s) (sym (w .takes)) ∙ x .store-is)
+        store-is = w .bytes ∙ ap (λ (z : List ℕ). valueStore (w .v) ++ z) (ap (λ (k : ℕ). drop (used + k) s) (sym (w .takes)) ∙ x .store-is);
       }
 
   add-list : (rows : List ℕ) (want used : ℕ) (r : Row) → ListRow used r → Elements-of rows (want + gained r) (used + stored r)
@@ -251,8 +271,8 @@ module _ (s : List ℕ) where
         many = ap suc (k .second);
         fine = and-both (natural (count (k .i))) _ (ap natural (k .first) ∙ w .small) (and-both (allowed (k .i)) (allowed (k .j)) (k .allowed-i) (k .allowed-j));
         rows-are = three _ _ _ _ _ _ rows (w .code-is) (sym (k .first)) (w .third-is)
-          ∙ ap (λ (z : List ℕ). 256 ∷ count (k .i) ∷ 0 ∷ z) (x .rows-are ∙ ap (λ (z : ℕ). elementRows z (x .tree)) e ∙ k .rows-are);
-        store-is = ap (λ (z : ℕ). drop z s) (sym e) ∙ x .store-is ∙ k .store-is
+            ∙ ap (λ (z : List ℕ). 256 ∷ count (k .i) ∷ 0 ∷ z) (x .rows-are ∙ ap (λ (z : ℕ). elementRows z (x .tree)) e ∙ k .rows-are);
+        store-is = ap (λ (z : ℕ). drop z s) (sym e) ∙ x .store-is ∙ k .store-is;
       }
 
   accepted : (rows : List ℕ) (want used : ℕ) → used ≤ length s → shape s rows want used ≡ true → Elements-of rows want used
@@ -305,5 +325,5 @@ shape-sound rows store h =
       rows-are = r .rows-are ∙ ap (elementRows 0) (o .1) ∙ ap (λ (z : List ℕ). listRow i ++ z) (append-nil (elementRows 0 i));
       store-is = r .store-is ∙ ap elementStore (o .1) ∙ append-nil (elementStore i);
       few = f .0;
-      fine = both (allowed i) _ (f .1) .0
+      fine = both (allowed i) _ (f .1) .0;
     }

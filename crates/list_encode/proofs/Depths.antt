@@ -1,23 +1,23 @@
 -- The walk over a list's rows finds its depth.
-use Prim.Native.Nat.{ℕ, zero, suc, _+_, _-_, _≤_, _<_, max}
+use Prim.Native.Nat.{ℕ, zero, suc, _+_, _-_, _≤_, _<_}
 use mathlib.Core.Path.{_≡_, refl, sym, ap, _∙_}
 use mathlib.Core.Bool.{Bool, true, false}
-use mathlib.Core.List.{List, [], _∷_, _++_, append-assoc, append-nil}
+use mathlib.Core.List.{List, [], _++_, append-assoc, append-nil}
 use native.Mathlib.Omega.{arith}
 use native.Mathlib.Nat.{add-zero, zero-add}
 use lib.Dec.{leb, ltb}
 use lib.ListN.{length, getD, drop, length-append, length-drop}
 use lib.Seq.{getD-drop}
-use borrow.Author.Tests.{eq-eqb, ne-eqb, le-ltb, lt-ltb, leb-true, leb-false}
+use borrow.Author.Tests.{ne-eqb, le-ltb, lt-ltb, leb-true, leb-false}
 use Rattle.list.specs.Kind.{codeOf, listCode}
 use Rattle.list.specs.Limits.{depthLimit}
 use Rattle.list.specs.Tree.{Value, Elements, int, vocab, float, str, blob, none, value, list, kind, count}
 use Rattle.list.specs.Rows.{valueStore, elementStore, valueRow, listRow, elementRows, listRows}
-use Rattle.list_encode.specs.declared.depth.Walked.{Walked}
+use Rattle.list.proofs.Codes.{code-low}
 use Rattle.list_encode.specs.declared.depth.Walked.the-variants.{Past, Deep}
 use Rattle.list_encode.specs.Encode.{nested, depth}
 use Rattle.list_encode.specs.Walk.{andWalk, walkIn, walk, isDeep, tooDeep}
-use Rattle.list_encode.proofs.Rows.{behind, code-low}
+use Rattle.list_encode.proofs.Rows.{behind}
 
 row-three : (v : Value) (used : ℕ) → length (valueRow used v) ≡ 3
 row-three (int n) used = refl
@@ -98,7 +98,7 @@ module _ (rows : List ℕ) where
       let y : List ℕ = elementRows (used + length (elementStore i)) es in
       let e : at + 3 + x + length y ≡ at + suc (suc (suc (length (elementRows used i ++ y)))) = omega (arith, length-append (elementRows used i) y) in
       let q : walk (suc d) rows (count i) (at + 3) ≡ Past (at + 3 + x) =
-        ap (λ (z : ℕ). walk (suc d) rows z (at + 3)) (sym (add-zero (count i))) ∙ walk-shallow i d 0 (at + 3) used _ (omega arith) (p .1) ∙ walk-none d (at + 3 + x) in
+      ap (λ (z : ℕ). walk (suc d) rows z (at + 3)) (sym (add-zero (count i))) ∙ walk-shallow i d 0 (at + 3) used _ (omega arith) (p .1) ∙ walk-none d (at + 3 + x) in
       rw (m, ← e) (step-list (suc d) (count es + n) at i _ (p .0) ∙ rw q (walk-shallow es (suc d) n (at + 3 + x) (used + length (elementStore i)) rest (omega arith) (p .2)))
 
   -- elements that are too deep are found
@@ -118,14 +118,18 @@ module _ (rows : List ℕ) where
     where
       y : List ℕ
       y = elementRows (used + length (elementStore i)) es
+
       p : (drop at rows ≡ listRow i ++ (elementRows used i ++ (elementRows (used + length (elementStore i)) es ++ rest)))
-        × (drop (at + 3) rows ≡ elementRows used i ++ (elementRows (used + length (elementStore i)) es ++ rest))
-        × (drop (at + 3 + length (elementRows used i)) rows ≡ elementRows (used + length (elementStore i)) es ++ rest)
+          × (drop (at + 3) rows ≡ elementRows used i ++ (elementRows (used + length (elementStore i)) es ++ rest))
+          × (drop (at + 3 + length (elementRows used i)) rows ≡ elementRows (used + length (elementStore i)) es ++ rest)
       p = past-in i es used at rest h
+
       x : ℕ
       x = length (elementRows used i)
+
       m : suc (count es) + n ≡ suc (count es + n)
       m = omega arith
+
       go : (b : Bool) → leb (nested i) d ≡ b → (d < nested i → walk (suc d) rows (count i + 0) (at + 3) ≡ Deep)
           → (suc d < nested es → walk (suc (suc d)) rows (count es + n) (at + 3 + x) ≡ Deep)
           → walk (suc (suc d)) rows (suc (count es) + n) at ≡ Deep
@@ -134,7 +138,7 @@ module _ (rows : List ℕ) where
           rw m (step-list (suc d) (count es + n) at i _ (p .0) ∙ rw q)
       go true e f g =
           let q : walk (suc d) rows (count i) (at + 3) ≡ Past (at + 3 + x) =
-            ap (λ (z : ℕ). walk (suc d) rows z (at + 3)) (sym (add-zero (count i))) ∙ walk-shallow i d 0 (at + 3) used _ (leb-true _ _ e) (p .1) ∙ walk-none d (at + 3 + x) in
+          ap (λ (z : ℕ). walk (suc d) rows z (at + 3)) (sym (add-zero (count i))) ∙ walk-shallow i d 0 (at + 3) used _ (leb-true _ _ e) (p .1) ∙ walk-none d (at + 3 + x) in
           rw m (step-list (suc d) (count es + n) at i _ (p .0) ∙ rw q (g (omega (arith, leb-true (nested i) d e))))
 
 -- rows are too deep where the list is
@@ -144,10 +148,13 @@ deep-is es = go (leb (nested es) 7) refl
   where
     w : List ℕ
     w = listRows es
+
     h : drop 3 w ≡ elementRows 0 es ++ []
     h = sym (append-nil (elementRows 0 es))
+
     c : count es ≡ count es + 0
     c = sym (add-zero (count es))
+
     go : (b : Bool) → leb (nested es) 7 ≡ b → isDeep (walk 8 w (count es) 3) ≡ ltb 8 (suc (nested es))
     go true e =
         ap (λ (z : ℕ). isDeep (walk 8 w z 3)) c ∙ ap isDeep (walk-shallow w es 7 0 3 0 [] (leb-true _ _ e) h ∙ walk-none w 7 _)

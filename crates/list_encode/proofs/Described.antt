@@ -1,9 +1,9 @@
 -- Rows and store describe a list exactly where they are its rows and its store.
-use Prim.Native.Nat.{ℕ, zero, suc, _+_}
+use Prim.Native.Nat.{ℕ, _+_}
 use mathlib.Core.Path.{_≡_, refl, sym, ap, _∙_}
-use mathlib.Core.Bool.{Bool, true, false, cond, _&&_}
+use mathlib.Core.Bool.{Bool, true, false, cond}
 use mathlib.Core.List.{List, [], _∷_, _++_, append-assoc, append-nil}
-use mathlib.Core.Option.{Option, some}
+use mathlib.Core.Option.{some}
 use mathlib.Core.Option as option
 use native.Mathlib.Omega.{arith}
 use lib.Dec.{eqb}
@@ -11,7 +11,7 @@ use lib.ListN.{length, drop}
 use borrow.Author.Tests.{eq-eqb, eqb-true}
 use Rattle.list.specs.Kind.{kindOf}
 use Rattle.list.specs.Tree.{Value, Elements, int, vocab, float, str, blob, none, value, list, count}
-use Rattle.list.specs.Rows.{valueStore, elementStore, valueRow, listRow, elementRows, listRows, listStore}
+use Rattle.list.specs.Rows.{valueStore, elementStore, valueRow, elementRows, listRows, listStore}
 use Rattle.list_encode.specs.Described.{firstOf, restOf, elementsOf, outermost, natural, allowed, same, describes, described}
 use Rattle.list_encode.proofs.Rows.{clash, both, part-is}
 use Rattle.list_encode.proofs.Accepted.{past-value, past-list}
@@ -67,7 +67,7 @@ rows-read (list i es) store rows used rest h =
     let u : ℕ = used + length (elementStore i) in
     let r : List ℕ = elementRows u es ++ rows in
     let t : elementsOf store (elementRows used i ++ r) ≡ joined i (joined es (elementsOf store rows)) =
-      rows-read i store r used (elementStore es ++ rest) (p .0) ∙ ap (joined i) (rows-read es store rows u rest (p .1)) in
+    rows-read i store r used (elementStore es ++ rest) (p .0) ∙ ap (joined i) (rows-read es store rows u rest (p .1)) in
     rw (append-assoc (elementRows used i) (elementRows u es) rows)
     (list-read store (elementRows used i ++ r) (count i) ∙ rw (t, first-joined i _, rest-joined i _))
 
@@ -80,7 +80,7 @@ pub read-back : (es : Elements) → outermost (elementsOf (listStore es) (listRo
 read-back es =
     let s : List ℕ = listStore es in
     let t : elementsOf s (elementRows 0 es) ≡ es =
-      ap (elementsOf s) (sym (append-nil (elementRows 0 es))) ∙ rows-read es s [] 0 [] (sym (append-nil s)) ∙ ap (joined es) (nothing-read s) ∙ joined-none es in
+    ap (elementsOf s) (sym (append-nil (elementRows 0 es))) ∙ rows-read es s [] 0 [] (sym (append-nil s)) ∙ ap (joined es) (nothing-read s) ∙ joined-none es in
     let f : joined es none ≡ es = joined-none es in
     ap outermost (list-read s (elementRows 0 es) (count es)) ∙ rw t (ap (firstOf (count es)) (sym f) ∙ first-joined es none)
 

@@ -9,7 +9,7 @@ use native.Mathlib.Nat.{add-zero, zero-add}
 use lib.Dec.{eqb, ltb}
 use lib.ListN.{length, getD, drop, set, length-drop, length-append}
 use lib.Seq.{sets, sets-eq}
-use borrow.Author.Tests.{lt-ltb, le-ltb, ltb-true, eqb-true}
+use borrow.Author.Tests.{lt-ltb, le-ltb, ltb-true}
 use Rattle.wire.specs.Area.{over}
 use Rattle.list.specs.declared.Kind.{Kind}
 use Rattle.list.specs.declared.Kind.the-variants.{Int, Float, Str, Blob, Vocab}
@@ -135,6 +135,7 @@ row-size s used left code r h = go (eqb (r .code) listCode) (eqb left 0)
   where
     x : List ℕ
     x = foundBytes s used (r .second) (r .third) (kindOf (r .code))
+
     go : (a b : Bool) → length (cond a (number code ++ number (r .second)) (cond b (number code) [] ++ foundBytes s used (r .second) (r .third) (kindOf (r .code))))
         ≡ cond a 8 (cond b 4 0 + foundSize (r .third) (kindOf (r .code)))
     go true b = refl
@@ -149,8 +150,12 @@ emit-size s (a ∷ b ∷ []) left used h = refl
 emit-size s (a ∷ b ∷ c ∷ rows) left used h =
     let r : Row = row a b c in
     let code : ℕ = codeAhead rows r in
-    omega (arith, length-append (rowBytes s used left code r) (emit s rows (leftAfter left code r) (used + stored r)),
-      row-size s used left code r (omega arith), emit-size s rows (leftAfter left code r) (used + stored r) (omega arith))
+    omega (
+      arith,
+      length-append (rowBytes s used left code r) (emit s rows (leftAfter left code r) (used + stored r)),
+      row-size s used left code r (omega arith),
+      emit-size s rows (leftAfter left code r) (used + stored r) (omega arith),
+    )
 
 -- THE WRITES
 sets-append : (xs ys l : List ℕ) (i j : ℕ) → j ≡ i + length xs → sets (sets l i xs) j ys ≡ sets l i (xs ++ ys)
@@ -163,7 +168,7 @@ put-chain l l₁ l₂ i j xs ys p q h = q ∙ ap (λ (z : List ℕ). sets z j ys
 
 emit-one : (s : List ℕ) (r : Row) (rows : List ℕ) (left used : ℕ)
     → emit s (r .code ∷ r .second ∷ r .third ∷ rows) left used
-      ≡ rowBytes s used left (codeAhead rows r) r ++ emit s rows (leftAfter left (codeAhead rows r) r) (used + stored r)
+    ≡ rowBytes s used left (codeAhead rows r) r ++ emit s rows (leftAfter left (codeAhead rows r) r) (used + stored r)
 unfolding emit
 emit-one s r rows left used = refl
 
@@ -188,7 +193,7 @@ module _ (L s rows buffer : List ℕ) (at left used end : ℕ) (inv : L ≡ sets
       let x : List ℕ = rowBytes s used left code r in
       let y : List ℕ = emit s (drop (at + 3) rows) (leftAfter left code r) (used + stored r) in
       let one : emit s (drop at rows) left used ≡ x ++ y =
-        ap (λ (z : List ℕ). emit s z left used) (front-row rows at fits r is-r) ∙ emit-one s r (drop (at + 3) rows) left used ∙ rw (← is-code) in
+      ap (λ (z : List ℕ). emit s z left used) (front-row rows at fits r is-r) ∙ emit-one s r (drop (at + 3) rows) left used ∙ rw (← is-code) in
       inv ∙ ap (sets buffer end) one
       ∙ sym (sets-append x y buffer end (end + size) (omega (arith, row-size s used left code r inside))) ∙ rw (is-next, is-l, is-t)
 

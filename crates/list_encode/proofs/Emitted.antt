@@ -2,33 +2,25 @@
 use Prim.Native.Nat.{ℕ, zero, suc, _+_, _-_, _≤_, _<_}
 use mathlib.Core.Path.{_≡_, refl, sym, ap, _∙_}
 use mathlib.Core.Bool.{Bool, true, false, cond}
-use mathlib.Core.Logic.{_⊎_, inl, inr, ⊎-elim}
 use mathlib.Core.List.{List, [], _∷_, _++_, append-assoc, append-nil}
 use native.Mathlib.Omega.{arith}
 use native.Mathlib.Numerals.{add-one, sub-one}
 use native.Mathlib.Nat.{add-zero, zero-add}
 use lib.Dec.{eqb, ltb}
 use lib.ListN.{length, drop}
-use borrow.Author.Tests.{eq-eqb, ne-eqb, lt-ltb, eqb-true, eqb-false}
-use Rattle.list.specs.Kind.{codeOf, kindOf, listCode}
+use borrow.Author.Tests.{ne-eqb, lt-ltb, eqb-true, eqb-false}
+use Rattle.list.specs.declared.Kind.{Kind}
+use Rattle.list.specs.Kind.{codeOf, kindOf, listCode, typedCode}
 use Rattle.list.specs.Tree.{Value, Elements, int, vocab, float, str, blob, none, value, list, kind, count}
-use Rattle.list.specs.Bytes.{number, valueBytes, common, commonOf, codeFor, listCodeOf, elementCode, elementBytes, listBytes}
-use Rattle.list.specs.Rows.{valueStore, elementStore, valueRow, listRow, elementRows, listRows, listStore}
+use Rattle.list.specs.Bytes.{number, valueBytes, common, commonOf, codeFor, listCodeOf, elementBytes, listBytes}
+use Rattle.list.specs.Rows.{valueStore, elementStore, valueRow, elementRows, listRows, listStore}
+use Rattle.list.proofs.Codes.{code-low, typed-no-list, AllKind, CodeIs, mixed, typed, code-is}
 use Rattle.list_encode.specs.Row.{stored}
 use Rattle.list_encode.specs.Emit.{kindBytes, foundBytes, commonIn, typedOr, codeAhead, rowBytes, leftAfter, emit}
-use Rattle.list_encode.proofs.Rows.{code-low, part-is}
+use Rattle.list_encode.proofs.Rows.{part-is}
 use Rattle.list_encode.proofs.Accepted.{past-value, past-list, used-value, used-list}
 
 -- WHAT CODES HAVE IN COMMON
-common-is : (seen code : ℕ) → (common seen code ≡ listCode) ⊎ ((common seen code ≡ code) × ((seen ≡ 0) ⊎ (seen ≡ code)))
-common-is seen code = go (eqb seen 0) refl (eqb seen code) refl
-  where
-    go : (a : Bool) → eqb seen 0 ≡ a → (b : Bool) → eqb seen code ≡ b
-        → (cond a code (cond b code listCode) ≡ listCode) ⊎ ((cond a code (cond b code listCode) ≡ code) × ((seen ≡ 0) ⊎ (seen ≡ code)))
-    go true e b f = inr (refl, inl (eqb-true _ _ e))
-    go false e true f = inr (refl, inr (eqb-true _ _ f))
-    go false e false f = inl refl
-
 common-mixed : (code : ℕ) → common listCode code ≡ listCode
 common-mixed code = go (eqb listCode code) refl
   where
@@ -36,53 +28,28 @@ common-mixed code = go (eqb listCode code) refl
     go true e = sym (eqb-true listCode code e)
     go false e = refl
 
-common-list : (seen : ℕ) → common seen listCode ≡ listCode
-common-list seen = ⊎-elim (λ w. w) (λ w. w .0) (common-is seen listCode)
+same-code : (a b : Bool) → cond a listCode (cond b listCode listCode) ≡ listCode
+same-code true b = refl
+same-code false true = refl
+same-code false false = refl
 
-mixed : (es : Elements) → commonOf listCode es ≡ listCode
-mixed none = refl
-mixed (value v es) = rw (common-mixed (codeOf (kind v))) (mixed es)
-mixed (list i es) = mixed es
+mixed-stays : (es : Elements) → commonOf listCode es ≡ listCode
+mixed-stays none = refl
+mixed-stays (value v es) = rw (common-mixed (codeOf (kind v))) (mixed-stays es)
+mixed-stays (list i es) = mixed-stays es
 
-common-low : (seen : ℕ) (es : Elements) → seen ≤ listCode → commonOf seen es ≤ listCode
-common-low seen none h = h
-common-low seen (value v es) h =
-    common-low (common seen (codeOf (kind v))) es
-    (⊎-elim (λ w. omega (arith, w)) (λ w. omega (arith, w .0, code-low (kind v) .1)) (common-is seen (codeOf (kind v))))
-common-low seen (list i es) h = common-low listCode es (omega arith)
-
--- all elements are values of the code k
-abbrev AllKind : ℕ → Elements → Type 0
-AllKind k none = Unit {0}
-AllKind k (value v es) = (codeOf (kind v) ≡ k) × AllKind k es
-AllKind k (list i es) = ⊥
-
--- where the codes agree, each is the one that was seen
-agree : (es : Elements) (seen k : ℕ) → commonOf seen es ≡ k → (k ≡ listCode → ⊥) → AllKind k es × ((seen ≡ 0) ⊎ (seen ≡ k))
-agree none seen k e n = (tt, inr e)
-agree (value v es) seen k e n = go (agree es (common seen code) k e n) (common-is seen code)
+common-low : (seen code : ℕ) → code < listCode → common seen code ≤ listCode
+common-low seen code h = go (eqb seen 0) (eqb seen code)
   where
-    code : ℕ
-    code = codeOf (kind v)
-    go : AllKind k es × ((common seen (codeOf (kind v)) ≡ 0) ⊎ (common seen (codeOf (kind v)) ≡ k))
-        → (common seen (codeOf (kind v)) ≡ listCode) ⊎ ((common seen (codeOf (kind v)) ≡ codeOf (kind v)) × ((seen ≡ 0) ⊎ (seen ≡ codeOf (kind v))))
-        → ((codeOf (kind v) ≡ k) × AllKind k es) × ((seen ≡ 0) ⊎ (seen ≡ k))
-    go r (inl m) = absurd (n (sym e ∙ ap (λ (z : ℕ). commonOf z es) m ∙ mixed es))
-    go r (inr (j, w)) =
-        let q : codeOf (kind v) ≡ k = ⊎-elim (λ z. absurd (code-low (kind v) .0 (sym j ∙ z))) (λ z. sym j ∙ z) (r .1) in
-        ((q, r .0), ⊎-elim (λ z. inl z) (λ z. inr (z ∙ q)) w)
-agree (list i es) seen k e n = absurd (n (sym e ∙ mixed es))
+    go : (a b : Bool) → cond a code (cond b code listCode) ≤ listCode
+    go true b = omega arith
+    go false true = omega arith
+    go false false = omega arith
 
-code-cases : (s : ℕ) → (((s ≡ 0) ⊎ (s ≡ listCode)) × (codeFor s ≡ listCode)) ⊎ ((s ≡ 0 → ⊥) × (s ≡ listCode → ⊥) × (codeFor s ≡ listCode + s))
-unfolding codeFor
-code-cases s = go (eqb s 0) refl (eqb s listCode) refl
-  where
-    go : (a : Bool) → eqb s 0 ≡ a → (b : Bool) → eqb s listCode ≡ b
-        → (((s ≡ 0) ⊎ (s ≡ listCode)) × (cond a listCode (cond b listCode (listCode + s)) ≡ listCode))
-            ⊎ ((s ≡ 0 → ⊥) × (s ≡ listCode → ⊥) × (cond a listCode (cond b listCode (listCode + s)) ≡ listCode + s))
-    go true e b f = inl (inl (eqb-true _ _ e), refl)
-    go false e true f = inl (inr (eqb-true _ _ f), refl)
-    go false e false f = inr (eqb-false _ _ e, eqb-false _ _ f, refl)
+commonOf-low : (seen : ℕ) (es : Elements) → seen ≤ listCode → commonOf seen es ≤ listCode
+commonOf-low seen none h = h
+commonOf-low seen (value v es) h = commonOf-low (common seen (codeOf (kind v))) es (common-low seen (codeOf (kind v)) (code-low (kind v) .1))
+commonOf-low seen (list i es) h = commonOf-low listCode es (omega arith)
 
 typed-or : (s : ℕ) → s ≤ listCode → typedOr s ≡ codeFor s
 unfolding typedOr codeFor
@@ -116,16 +83,16 @@ ahead-is (value v es) used seen rows =
     let u : ℕ = used + length (valueStore v) in
     rw (append-assoc (valueRow used v) (elementRows u es) rows)
     (ahead-value v used seen (count es) (elementRows u es ++ rows) ∙ ahead-is es u (common seen (codeOf (kind v))) rows)
-ahead-is (list i es) used seen rows = rw (common-list seen, ahead-mixed (count es) _) (sym (mixed es))
+ahead-is (list i es) used seen rows = rw (same-code (eqb seen 0) (eqb seen listCode), ahead-mixed (count es) _) (sym (mixed-stays es))
 
-code-is : (es : Elements) (used : ℕ) (rows : List ℕ) → typedOr (commonIn 0 (count es) (elementRows used es ++ rows)) ≡ listCodeOf es
-code-is es used rows = ap typedOr (ahead-is es used 0 rows) ∙ typed-or (commonOf 0 es) (common-low 0 es (omega arith))
+ahead-code : (es : Elements) (used : ℕ) (rows : List ℕ) → typedOr (commonIn 0 (count es) (elementRows used es ++ rows)) ≡ listCodeOf es
+ahead-code es used rows = ap typedOr (ahead-is es used 0 rows) ∙ typed-or (commonOf 0 es) (commonOf-low 0 es (omega arith))
 
 -- THE BYTES
 value-emits :
     (v : Value) (store rows : List ℕ) (left used : ℕ) (rest : List ℕ) → drop used store ≡ valueStore v ++ rest
     → emit store (valueRow used v ++ rows) left used
-      ≡ (cond (eqb left 0) (number (codeOf (kind v))) [] ++ valueBytes v) ++ emit store rows (left - 1) (used + length (valueStore v))
+    ≡ (cond (eqb left 0) (number (codeOf (kind v))) [] ++ valueBytes v) ++ emit store rows (left - 1) (used + length (valueStore v))
 unfolding emit rowBytes codeAhead leftAfter foundBytes kindBytes stored kindOf
 value-emits (int n) store rows left used rest h = refl
 value-emits (vocab n) store rows left used rest h = refl
@@ -140,36 +107,34 @@ list-emits store rows n left used code h = rw (h, add-zero used)
 
 -- elements of one kind, without their codes
 emit-typed :
-    (es : Elements) (store rows : List ℕ) (k left used : ℕ) (rest : List ℕ) → AllKind k es → (k ≡ 0 → ⊥) → drop used store ≡ elementStore es ++ rest
-    → emit store (elementRows used es ++ rows) (count es + left) used ≡ elementBytes (listCode + k) es ++ emit store rows left (used + length (elementStore es))
-emit-typed none store rows k left used rest a nz h = rw (zero-add, add-zero)
-emit-typed (value v es) store rows k left used rest a nz h =
-    let ne : eqb (listCode + k) listCode ≡ false = ne-eqb (listCode + k) listCode (λ z. nz (omega arith)) in
+    (es : Elements) (store rows : List ℕ) (k : Kind) (left used : ℕ) (rest : List ℕ) → AllKind k es → drop used store ≡ elementStore es ++ rest
+    → emit store (elementRows used es ++ rows) (count es + left) used ≡ elementBytes (typedCode k) es ++ emit store rows left (used + length (elementStore es))
+emit-typed none store rows k left used rest a h = rw (zero-add, add-zero)
+emit-typed (value v es) store rows k left used rest a h =
     let n : suc (count es) + left ≡ suc (count es + left) = omega arith in
     let z : eqb (suc (count es + left)) 0 ≡ false = ne-eqb (suc (count es + left)) 0 (λ y. omega arith) in
     let p = past-value v es store used rest h in
     let u : ℕ = used + length (valueStore v) in
-    rw (n, append-assoc (valueRow used v) (elementRows u es) rows, ne, ← used-value v es used)
+    rw (n, append-assoc (valueRow used v) (elementRows u es) rows, typed-no-list k, ← used-value v es used)
     (value-emits v store (elementRows u es ++ rows) (suc (count es + left)) used (elementStore es ++ rest) (p .0)
-      ∙ rw (z, sub-one) (ap (λ (y : List ℕ). valueBytes v ++ y) (emit-typed es store rows k left u rest (a .1) nz (p .1))
-      ∙ sym (append-assoc (valueBytes v) (elementBytes (listCode + k) es) _)))
-emit-typed (list i es) store rows k left used rest a nz h = absurd a
+    ∙ rw (z, sub-one) (ap (λ (y : List ℕ). valueBytes v ++ y) (emit-typed es store rows k left u rest (a .1) (p .1))
+    ∙ sym (append-assoc (valueBytes v) (elementBytes (typedCode k) es) _)))
+emit-typed (list i es) store rows k left used rest a h = absurd a
 
 -- the elements behind a list's code and count, with codes or without
 emit-inside :
     (i : Elements) (store rows : List ℕ) (used : ℕ) (rest : List ℕ) → drop used store ≡ elementStore i ++ rest
     → emit store (elementRows used i ++ rows) 0 used ≡ elementBytes listCode i ++ emit store rows 0 (used + length (elementStore i))
     → emit store (elementRows used i ++ rows) (cond (eqb (listCodeOf i) listCode) 0 (count i)) used
-      ≡ elementBytes (listCodeOf i) i ++ emit store rows 0 (used + length (elementStore i))
-emit-inside i store rows used rest h ih =
-    ⊎-elim
-    (λ w. rw (w .1) ih)
-    (λ w.
-      let k : ℕ = commonOf 0 i in
-      let ne : eqb (listCode + k) listCode ≡ false = ne-eqb (listCode + k) listCode (λ z. w .0 (omega arith)) in
-      let n : count i ≡ count i + 0 = sym (add-zero (count i)) in
-      rw (w .2, ne) (ap (λ (z : ℕ). emit store (elementRows used i ++ rows) z used) n ∙ emit-typed i store rows k 0 used rest (agree i 0 k refl (w .1) .0) (w .0) h))
-    (code-cases (commonOf 0 i))
+    ≡ elementBytes (listCodeOf i) i ++ emit store rows 0 (used + length (elementStore i))
+emit-inside i store rows used rest h ih = go (code-is i)
+  where
+    go : CodeIs i → emit store (elementRows used i ++ rows) (cond (eqb (listCodeOf i) listCode) 0 (count i)) used
+        ≡ elementBytes (listCodeOf i) i ++ emit store rows 0 (used + length (elementStore i))
+    go (mixed e) = rw e ih
+    go (typed k e a) =
+        rw (e, typed-no-list k)
+        (ap (λ (z : ℕ). emit store (elementRows used i ++ rows) z used) (sym (add-zero (count i))) ∙ emit-typed i store rows k 0 used rest a h)
 
 -- elements with their codes
 emit-coded :
@@ -179,21 +144,20 @@ emit-coded none store rows used rest h = rw add-zero
 emit-coded (value v es) store rows used rest h =
     let p = past-value v es store used rest h in
     let u : ℕ = used + length (valueStore v) in
-    let c : List ℕ = number (codeOf (kind v)) in
     rw (append-assoc (valueRow used v) (elementRows u es) rows, ← used-value v es used)
     (value-emits v store (elementRows u es ++ rows) 0 used (elementStore es ++ rest) (p .0)
-      ∙ ap (λ (y : List ℕ). (number (codeOf (kind v)) ++ valueBytes v) ++ y) (emit-coded es store rows u rest (p .1))
-      ∙ ap (λ (y : List ℕ). number (codeOf (kind v)) ++ y) (sym (append-assoc (valueBytes v) (elementBytes listCode es) _)))
+    ∙ ap (λ (y : List ℕ). (number (codeOf (kind v)) ++ valueBytes v) ++ y) (emit-coded es store rows u rest (p .1))
+    ∙ ap (λ (y : List ℕ). number (codeOf (kind v)) ++ y) (sym (append-assoc (valueBytes v) (elementBytes listCode es) _)))
 emit-coded (list i es) store rows used rest h =
     let p = past-list i es store used rest h in
     let u : ℕ = used + length (elementStore i) in
     let r : List ℕ = elementRows u es ++ rows in
     rw (append-assoc (elementRows used i) (elementRows u es) rows, ← used-list i es used)
-    (list-emits store (elementRows used i ++ r) (count i) 0 used (listCodeOf i) (code-is i used r)
-      ∙ ap (λ (y : List ℕ). (number (listCodeOf i) ++ number (count i)) ++ y)
-        (emit-inside i store r used (elementStore es ++ rest) (p .0) (emit-coded i store r used (elementStore es ++ rest) (p .0))
-          ∙ ap (λ (y : List ℕ). elementBytes (listCodeOf i) i ++ y) (emit-coded es store rows u rest (p .1))
-          ∙ sym (append-assoc (elementBytes (listCodeOf i) i) (elementBytes listCode es) _)))
+    (list-emits store (elementRows used i ++ r) (count i) 0 used (listCodeOf i) (ahead-code i used r)
+    ∙ ap (λ (y : List ℕ). (number (listCodeOf i) ++ number (count i)) ++ y)
+    (emit-inside i store r used (elementStore es ++ rest) (p .0) (emit-coded i store r used (elementStore es ++ rest) (p .0))
+    ∙ ap (λ (y : List ℕ). elementBytes (listCodeOf i) i ++ y) (emit-coded es store rows u rest (p .1))
+    ∙ sym (append-assoc (elementBytes (listCodeOf i) i) (elementBytes listCode es) _)))
 
 emit-end : (store : List ℕ) (left used : ℕ) → emit store [] left used ≡ []
 unfolding emit
@@ -205,10 +169,10 @@ unfolding listBytes
 emit-list es =
     let s : List ℕ = listStore es in
     let w : List ℕ = elementRows 0 es in
-    let code : typedOr (commonIn 0 (count es) w) ≡ listCodeOf es = ap (λ (z : List ℕ). typedOr (commonIn 0 (count es) z)) (sym (append-nil w)) ∙ code-is es 0 [] in
+    let code : typedOr (commonIn 0 (count es) w) ≡ listCodeOf es = ap (λ (z : List ℕ). typedOr (commonIn 0 (count es) z)) (sym (append-nil w)) ∙ ahead-code es 0 [] in
     let inside : emit s (w ++ []) (cond (eqb (listCodeOf es) listCode) 0 (count es)) 0 ≡ elementBytes (listCodeOf es) es ++ emit s [] 0 (0 + length s) =
-      emit-inside es s [] 0 [] (sym (append-nil s)) (emit-coded es s [] 0 [] (sym (append-nil s))) in
+    emit-inside es s [] 0 [] (sym (append-nil s)) (emit-coded es s [] 0 [] (sym (append-nil s))) in
     list-emits s w (count es) 0 0 (listCodeOf es) code
     ∙ ap (λ (z : List ℕ). (number (listCodeOf es) ++ number (count es)) ++ z)
-      (ap (λ (z : List ℕ). emit s z (cond (eqb (listCodeOf es) listCode) 0 (count es)) 0) (sym (append-nil w)) ∙ inside
-      ∙ ap (λ (z : List ℕ). elementBytes (listCodeOf es) es ++ z) (emit-end s 0 _) ∙ append-nil _)
+    (ap (λ (z : List ℕ). emit s z (cond (eqb (listCodeOf es) listCode) 0 (count es)) 0) (sym (append-nil w)) ∙ inside
+    ∙ ap (λ (z : List ℕ). elementBytes (listCodeOf es) es ++ z) (emit-end s 0 _) ∙ append-nil _)

@@ -3,22 +3,19 @@ use Prim.Native.Nat.{ℕ, _≤_, _<_}
 use mathlib.Core.Path.{_≡_, refl, sym, ap, _∙_}
 use mathlib.Core.Bool.{Bool, true, false, cond}
 use mathlib.Core.List.{List}
-use mathlib.Core.Option.{Option, some}
-use mathlib.Core.Option as option
 use native.Mathlib.Omega.{arith}
 use lib.Dec.{eqb, ltb}
 use lib.ListN.{length, getD}
 use lib.Seq.{sets}
 use borrow.Author.Tests.{lt-ltb, le-ltb}
 use Rattle.list.specs.Kind.{listCode}
-use Rattle.list.specs.Limits.{listLimit, depthLimit}
+use Rattle.list.specs.Limits.{listLimit}
 use Rattle.list.specs.Tree.{Elements}
-use Rattle.list.specs.Bytes.{listBytes}
 use Rattle.list.specs.Rows.{listRows, listStore}
 use Rattle.wire.specs.Area.{over}
 use Rattle.list_encode.specs.declared.Encoded.the-variants.{Written, Refused}
 use Rattle.list_encode.specs.Described.{described}
-use Rattle.list_encode.specs.Encode.{depth, Outcome, outcome, writtenList, answered, encodeOf}
+use Rattle.list_encode.specs.Encode.{Outcome, outcome, writtenList, answered, encodeOf}
 use Rattle.list_encode.specs.Shape.{listShape}
 use Rattle.list_encode.specs.Walk.{tooDeep}
 use Rattle.list_encode.specs.Emit.{emit, sizeFrom, capped, storedFrom}
@@ -47,12 +44,12 @@ shaped-is rows store buffer x =
     ap (λ (z : List ℕ). passed z store buffer) (x .rows-are) ∙ ap (λ (z : List ℕ). passed (listRows (x .es)) z buffer) (x .store-is)
     ∙ passed-is (x .es) buffer
     ∙ ap (answered listLimit buffer) (sym (ap (λ (z : List ℕ). described z store) (x .rows-are) ∙ ap (described (listRows (x .es))) (x .store-is)
-      ∙ described-complete (x .es) (x .few) (x .fine)))
+    ∙ described-complete (x .es) (x .few) (x .fine)))
 
 unshaped : (rows store : List ℕ) → listShape rows store ≡ false → (es : Elements) → Told rows store es → ⊥
 unshaped rows store h es t =
     let y : listShape rows store ≡ true =
-      ap (λ (z : List ℕ). listShape z store) (t .rows-are) ∙ ap (listShape (listRows es)) (t .store-is) ∙ shape-complete es (t .few) (t .fine) in
+    ap (λ (z : List ℕ). listShape z store) (t .rows-are) ∙ ap (listShape (listRows es)) (t .store-is) ∙ shape-complete es (t .few) (t .fine) in
     clash (sym h ∙ y)
 
 pub flat-is : (rows store buffer : List ℕ) → flatOf rows store buffer ≡ encodeOf rows store buffer

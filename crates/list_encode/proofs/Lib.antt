@@ -7,3 +7,6 @@ pub mod Described
 pub mod Depths
 pub mod Emitted
 pub mod Encoding
+pub mod Legality
+pub mod RoundTrips
+pub mod Cases

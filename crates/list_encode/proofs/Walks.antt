@@ -31,7 +31,7 @@ walk-done inner rows (suc n) at h = absurd (omega arith)
 
 walk-more : (inner : ℕ → ℕ → Walked) (rows : List ℕ) (n at : ℕ) → 0 < n
     → walkIn inner rows n at ≡ cond (ltb (length rows - at) 3) (Past at)
-      (cond (eqb (getD rows at 0) listCode) (andWalk (inner (getD rows (at + 1) 0) (at + 3)) (λ i. walkIn inner rows (n - 1) i)) (walkIn inner rows (n - 1) (at + 3)))
+    (cond (eqb (getD rows at 0) listCode) (andWalk (inner (getD rows (at + 1) 0) (at + 3)) (λ i. walkIn inner rows (n - 1) i)) (walkIn inner rows (n - 1) (at + 3)))
 unfolding walkIn
 walk-more inner rows zero at h = absurd (omega arith)
 walk-more inner rows (suc n) at h = simp sub-one

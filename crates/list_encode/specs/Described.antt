@@ -1,5 +1,5 @@
 -- The list that rows and store describe, where they describe exactly one.
-use Prim.Native.Nat.{ℕ, zero, suc}
+use Prim.Native.Nat.{ℕ, zero, suc, _^_, _<_}
 use mathlib.Core.Bool.{Bool, true, false, not, cond, _&&_}
 use mathlib.Core.List.{List, [], _∷_}
 use mathlib.Core.Option.{Option, some}
@@ -13,7 +13,8 @@ use Rattle.list.specs.declared.KindFound.{KindFound}
 use Rattle.list.specs.declared.KindFound.the-variants.{Is, Unknown}
 use Rattle.list.specs.Kind.{kindOf, listCode}
 use Rattle.list.specs.Tree.{Value, Elements, int, vocab, float, str, blob, none, value, list, count}
-use Rattle.list.specs.Rows.{listRows, listStore}
+use Rattle.list.specs.Rows.{valueStore, listRows, listStore}
+use Rattle.list.specs.Legal.{LegalValue}
 
 -- "Place and length are in a byte store": `size` bytes of it from `offset` on
 abbrev pub part : List ℕ → ℕ → ℕ → List ℕ
@@ -94,3 +95,14 @@ describes rows store es = same rows (listRows es) && (same store (listStore es) 
 unfoldable pub described : List ℕ → List ℕ → Option Elements
 described rows store =
     cond (describes rows store (outermost (elementsOf store rows))) (some (outermost (elementsOf store rows))) option.none
+
+-- "rows of three 32-bit numbers"
+abbrev pub Words : List ℕ → Type 0
+Words [] = Unit {0}
+Words (n ∷ rows) = (n < 2 ^ 32) × Words rows
+
+-- what rows and store can describe, at any depth and of any size: legal values, no count or length below 0
+abbrev pub Writable : Elements → Type 0
+Writable none = Unit {0}
+Writable (value v es) = LegalValue v × (length (valueStore v) < 2 ^ 31) × Writable es
+Writable (list inner es) = (count inner < 2 ^ 31) × Writable inner × Writable es

@@ -16,7 +16,7 @@ unfoldable pub flatOf : List ℕ → List ℕ → List ℕ → Outcome
 flatOf rows store buffer =
     cond (ltb (length buffer) listLimit) (outcome (Refused 20) buffer)
     (cond (listShape rows store)
-      (cond (tooDeep rows) (outcome (Refused 27) buffer)
-      (cond (ltb listLimit (length (emit store rows 0 0))) (outcome (Refused 28) buffer)
-      (outcome (Written (length (emit store rows 0 0))) (over (emit store rows 0 0) buffer))))
+    (cond (tooDeep rows) (outcome (Refused 27) buffer)
+    (cond (ltb listLimit (length (emit store rows 0 0))) (outcome (Refused 28) buffer)
+    (outcome (Written (length (emit store rows 0 0))) (over (emit store rows 0 0) buffer))))
     (outcome (Refused 30) buffer))

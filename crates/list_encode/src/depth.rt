@@ -1,8 +1,8 @@
 // Does a list stand too deep?
-use list::DEPTH_LIMIT;
-use list::LIST_CODE;
 use super::row::row_at;
 use super::row::wide;
+use list::DEPTH_LIMIT;
+use list::LIST_CODE;
 ghost use Prim.Native.Nat.{_≤_};
 ghost use mathlib.Core.Path.{_≡_};
 ghost use lib.ListN.{length};

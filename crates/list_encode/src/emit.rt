@@ -1,7 +1,4 @@
 // The bytes of a list, straight into the buffer.
-use list::Kind;
-use list::KindFound;
-use list::LIST_CODE;
 use super::look::code_ahead;
 use super::look::left_after;
 use super::row::Row;
@@ -9,6 +6,9 @@ use super::row::row_at;
 use super::row::stored_by;
 use super::row::wide;
 use super::size::row_size;
+use list::Kind;
+use list::KindFound;
+use list::LIST_CODE;
 ghost use Prim.Native.Nat.{_+_, _≤_};
 ghost use mathlib.Core.Path.{_≡_};
 ghost use mathlib.Core.List.{[], _∷_, _++_};
@@ -18,7 +18,7 @@ ghost use Rattle.list.specs.Kind.{kindOf};
 ghost use Rattle.list.specs.Limits.{listLimit};
 ghost use Rattle.list.specs.Bytes.{number};
 ghost use Rattle.list_encode.specs.Described.{part};
-ghost use Rattle.list_encode.specs.Row.{kindStored, foundStored, stored};
+ghost use Rattle.list_encode.specs.Row.{kindStored, stored};
 ghost use Rattle.list_encode.specs.Emit.{kindBytes, foundBytes, rowBytes, emit, kindSize, foundSize, rowSize, sizeFrom, storedFrom};
 
 // A number. There is room for what each of these functions writes.
@@ -110,7 +110,15 @@ fn put_coded(buffer: &mut [u8], at: usize, store: &[u8], used: usize, code: u32,
 }
 
 // A row's element, or a list's code and count; `left` elements come without a code.
-fn put_row(buffer: &mut [u8], at: usize, store: &[u8], used: usize, left: usize, code: u32, row: Row)
+fn put_row(
+    buffer: &mut [u8],
+    at: usize,
+    store: &[u8],
+    used: usize,
+    left: usize,
+    code: u32,
+    row: Row,
+)
     requires { ⌜ (at + rowSize left row ≤ listLimit) × (listLimit ≤ length (now buffer)) × (used + stored row ≤ length (now store)) ⌝ }
     ensures { λ _. ⌜ now (buffer .exit) ≡ sets (now (buffer .entry)) at (rowBytes (now (store .entry)) used left code row) ⌝ }
 {

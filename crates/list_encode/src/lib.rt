@@ -5,6 +5,7 @@ mod look;
 mod row;
 mod shape;
 mod size;
+
 use depth::is_too_deep;
 use emit::emit_rows;
 use list::LIST_LIMIT;

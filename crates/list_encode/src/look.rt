@@ -1,9 +1,9 @@
 // Looking ahead for a list's code: its elements' rows come next, or a nested list's row is among as many rows as it counts.
 // Every row but the first is counted by exactly one list, so all look-aheads together pass each row at most once.
-use list::LIST_CODE;
 use super::row::Row;
 use super::row::row_at;
 use super::row::wide;
+use list::LIST_CODE;
 ghost use Prim.Native.Nat.{_≤_};
 ghost use mathlib.Core.Path.{_≡_};
 ghost use lib.ListN.{length, drop};

@@ -1,7 +1,7 @@
 // One row of a list: a code and two numbers.
-use list::LIST_CODE;
 use list::Kind;
 use list::KindFound;
+use list::LIST_CODE;
 ghost use Prim.Native.Nat.{_+_, _≤_, _<_, _^_};
 ghost use mathlib.Core.Path.{_≡_};
 ghost use lib.ListN.{length};

@@ -1,12 +1,12 @@
 // Do rows and store describe exactly one list? Judged at any depth and for any number of rows.
+use super::row::Row;
+use super::row::gained_by;
+use super::row::row_at;
+use super::row::stored_by;
+use super::row::wide;
 use list::Kind;
 use list::KindFound;
 use list::LIST_CODE;
-use super::row::Row;
-use super::row::row_at;
-use super::row::gained_by;
-use super::row::stored_by;
-use super::row::wide;
 ghost use Prim.Native.Nat.{_≤_};
 ghost use mathlib.Core.Path.{_≡_};
 ghost use lib.ListN.{length};

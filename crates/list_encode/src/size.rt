@@ -1,13 +1,13 @@
 // How many bytes a list has.
-use list::Kind;
-use list::KindFound;
-use list::LIST_CODE;
-use list::LIST_LIMIT;
 use super::look::code_ahead;
 use super::look::left_after;
 use super::row::Row;
 use super::row::row_at;
 use super::row::wide;
+use list::Kind;
+use list::KindFound;
+use list::LIST_CODE;
+use list::LIST_LIMIT;
 ghost use Prim.Native.Nat.{_+_, _≤_, _<_, _^_};
 ghost use mathlib.Core.Path.{_≡_};
 ghost use Rattle.list.specs.Kind.{kindOf};

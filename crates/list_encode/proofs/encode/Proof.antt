@@ -1,40 +1,14 @@
 -- `list_encode::encode` meets its contract: each return is a case of the definition.
-use Prim.Native.Nat.{ℕ, _+_, _-_, _*_, _≤_, _<_, _^_}
-use mathlib.Core.Path.{_≡_, refl, sym, ap, _∙_}
-use mathlib.Core.Bool.{true, false, not, cond, _&&_}
-use mathlib.Core.Logic.{⊎-elim}
-use mathlib.Core.List.{List, [], _∷_, _++_}
+use mathlib.Core.Path.{sym, _∙_}
 use native.Mathlib.Omega.{arith}
-use lib.Dec.{eqb, ltb, leb}
-use lib.ListN.{length, getD, take, drop}
-use lib.Seq.{sets}
 use borrow.Author.Needs.{needs}
-use borrow.Author.Tests.{eq-eqb, ne-eqb, lt-ltb, le-ltb, le-leb, lt-leb}
-use Rattle.wire.specs.Zero.{hasZero}
-use Rattle.wire.proofs.Buffers.{put-fits}
-use Rattle.list.specs.Kind.{kindOf, listCode}
 use Rattle.list.specs.Limits.{listLimit}
-use Rattle.list.specs.Bytes.{number, common}
-use Rattle.list_encode.specs.Described.{part}
-use Rattle.list_encode.specs.Encode.{outcome}
-use Rattle.list_encode.specs.Row.{rowAt, gained, kindStored, foundStored, stored}
-use Rattle.list_encode.specs.Shape.{placed, textual, kindFits, foundFits, rowFits, shape, listShape}
-use Rattle.list_encode.specs.Walk.{walk, walkIn, isDeep, tooDeep, Inside}
-use Rattle.list_encode.specs.Emit.{kindBytes, foundBytes, commonIn, typedOr, codeAhead, rowBytes, leftAfter, emit, kindSize, foundSize, rowSize, sizeFrom, capped, storedFrom}
-use Rattle.list_encode.specs.Flat.{flatOf}
-use Rattle.list_encode.proofs.Rows.{size-low, part-length}
-use Rattle.list_encode.proofs.Shapes.{placed-inside, fits-inside, turn-over, turn-few, turn-end, turn-stop, turn-goes, shape-stored, list-row, no-row}
-use Rattle.list_encode.proofs.Walks.{walk-down, walk-shut, walk-done, walk-short, walk-value, walk-deeper, walk-past, past-inside}
-use Rattle.list_encode.proofs.Emits.{common-none, common-short, common-turn, size-short, size-turn, stored-turn, capped-over, capped-is, capped-low, capped-high, row-size, emit-size, put-chain, emit-done, emit-turn, sets-over}
+use Rattle.list_encode.specs.Emit.{sizeFrom}
+use Rattle.list_encode.proofs.Shapes.{list-row}
+use Rattle.list_encode.proofs.Emits.{capped-low}
 use Rattle.list_encode.proofs.Encoding.{stored-all, answer-room, answer-none, answer-deep, answer-long, answer-written}
 use Rattle.list_encode.proofs.encode.Statement.{statement}
 use Rattle.list_encode.proofs.encode.Tie as tie
-use Rattle.list_encode.proofs.encode.Reads as reads
-use Rattle.list_encode.proofs.encode.Lts as lts
-use Rattle.list_encode.proofs.depth.is_too_deep.Reads as is-too-deep-reads
-use Rattle.list_encode.proofs.emit.emit_rows.Reads as emit-rows-reads
-use Rattle.list_encode.proofs.shape.is_list.Reads as is-list-reads
-use Rattle.list_encode.proofs.size.measure.Reads as measure-reads
 
 returns : tie.Need-returns
 returns c = answer-room (c .before .before .before .before .args .rows .now) (c .before .before .before .before .args .store .now) (c .before .before .before .before .args .buffer .now) (c .if1 .taken)
@@ -55,16 +29,17 @@ returns-3 : tie.Need-returns-3
 returns-3 c = answer-long (c .before .before .before .before .before .before .before .before .before .before .args .rows .now) (c .before .before .before .before .before .before .before .before .before .before .args .store .now) (c .before .before .before .before .before .before .before .before .before .before .args .buffer .now) (c .before .before .before .before .before .before .if1 .left) (sym (c .before .before .before .before .before .is-list .ensures) ∙ c .before .before .before .before .if2 .taken) (sym (c .before .before .before .is-too-deep .ensures) ∙ c .before .before .if3 .left) _ (c .before .measure .ensures) (c .if4 .taken)
 
 emit-rows-requires : tie.Need-emit-rows-requires
-emit-rows-requires c κs = 
-    (omega (arith, c .before .if4 .left, capped-low listLimit (c .before .before .measure .result) (sizeFrom (c .before .before .before .before .before .before .before .before .before .before .before .args .rows .now) 0) (c .before .before .measure .ensures) (c .before .if4 .left)),
-      stored-all (c .before .before .before .before .before .before .before .before .before .before .before .args .rows .now) (c .before .before .before .before .before .before .before .before .before .before .before .args .store .now) (sym (c .before .before .before .before .before .before .is-list .ensures) ∙ c .before .before .before .before .before .if2 .taken),
-      c .before .before .before .before .before .before .before .if1 .left)
+emit-rows-requires c κs = (
+  omega (arith, c .before .if4 .left, capped-low listLimit (c .before .before .measure .result) (sizeFrom (c .before .before .before .before .before .before .before .before .before .before .before .args .rows .now) 0) (c .before .before .measure .ensures) (c .before .if4 .left)),
+  stored-all (c .before .before .before .before .before .before .before .before .before .before .before .args .rows .now) (c .before .before .before .before .before .before .before .before .before .before .before .args .store .now) (sym (c .before .before .before .before .before .before .is-list .ensures) ∙ c .before .before .before .before .before .if2 .taken),
+  c .before .before .before .before .before .before .before .if1 .left,
+)
 
 same-length : tie.Need-same-length
 same-length c = search needs
 
 returns-4 : tie.Need-returns-4
-returns-4 c = 
+returns-4 c =
     answer-written (c .before .before .before .before .before .before .before .before .before .before .before .before .before .before .args .rows .now) (c .before .before .before .before .before .before .before .before .before .before .before .before .before .before .args .store .now) (c .before .before .before .before .before .before .before .before .before .before .before .before .before .before .args .buffer .now) (c .before .before .before .before .before .before .before .before .before .before .if1 .left) (sym (c .before .before .before .before .before .before .before .before .before .is-list .ensures) ∙ c .before .before .before .before .before .before .before .before .if2 .taken) (sym (c .before .before .before .before .before .before .before .is-too-deep .ensures) ∙ c .before .before .before .before .before .before .if3 .left) _ (c .before .before .before .before .before .measure .ensures)
     _ (c .before .before .before .before .if4 .left) (c .before .before .emit-rows .ensures)
 

@@ -1,32 +1,12 @@
 -- `list_encode::depth::walk_rows` meets its contract. The invariant: the answer for the list is that for `left` elements from `i` on. The depth left falls at every call.
-use Prim.Native.Nat.{ℕ, _+_, _-_, _*_, _≤_, _<_, _^_}
-use mathlib.Core.Path.{_≡_, refl, sym, ap, _∙_}
-use mathlib.Core.Bool.{true, false, not, cond, _&&_}
+use Prim.Native.Nat.{ℕ, _-_, _≤_, _<_}
+use mathlib.Core.Path.{_≡_, sym, _∙_}
 use mathlib.Core.Logic.{⊎-elim}
-use mathlib.Core.List.{List, [], _∷_, _++_}
 use native.Mathlib.Omega.{arith}
-use lib.Dec.{eqb, ltb, leb}
-use lib.ListN.{length, getD, take, drop}
-use lib.Seq.{sets}
+use lib.ListN.{length}
 use borrow.Author.Needs.{needs}
-use borrow.Author.Tests.{eq-eqb, ne-eqb, lt-ltb, le-ltb, le-leb, lt-leb}
-use Rattle.wire.specs.Zero.{hasZero}
-use Rattle.wire.proofs.Buffers.{put-fits}
-use Rattle.list.specs.Kind.{kindOf, listCode}
-use Rattle.list.specs.Limits.{listLimit}
-use Rattle.list.specs.Bytes.{number, common}
-use Rattle.list_encode.specs.Described.{part}
-use Rattle.list_encode.specs.Encode.{outcome}
-use Rattle.list_encode.specs.Row.{rowAt, gained, kindStored, foundStored, stored}
-use Rattle.list_encode.specs.Shape.{placed, textual, kindFits, foundFits, rowFits, shape, listShape}
-use Rattle.list_encode.specs.Walk.{walk, walkIn, isDeep, tooDeep, Inside}
-use Rattle.list_encode.specs.Emit.{kindBytes, foundBytes, commonIn, typedOr, codeAhead, rowBytes, leftAfter, emit, kindSize, foundSize, rowSize, sizeFrom, capped, storedFrom}
-use Rattle.list_encode.specs.Flat.{flatOf}
-use Rattle.list_encode.proofs.Rows.{size-low, part-length}
-use Rattle.list_encode.proofs.Shapes.{placed-inside, fits-inside, turn-over, turn-few, turn-end, turn-stop, turn-goes, shape-stored, list-row, no-row}
+use Rattle.list_encode.specs.Walk.{walk, walkIn}
 use Rattle.list_encode.proofs.Walks.{walk-down, walk-shut, walk-done, walk-short, walk-value, walk-deeper, walk-past, past-inside}
-use Rattle.list_encode.proofs.Emits.{common-none, common-short, common-turn, size-short, size-turn, stored-turn, capped-over, capped-is, capped-low, capped-high, row-size, emit-size, put-chain, emit-done, emit-turn, sets-over}
-use Rattle.list_encode.proofs.Encoding.{stored-all, answer-room, answer-none, answer-deep, answer-long, answer-written}
 use borrow.Fn.Kinds.{In}
 use borrow.Fn.PlainCycle.{Measures, is, falls, and}
 use Rattle.list_encode.proofs.depth.walk_rows.Reads as walk-rows
@@ -102,10 +82,12 @@ walk-rows-loop-less : (t : ℕ) → walk-rows-lts.Need-loop-less (calls t) (walk
 walk-rows-loop-less t c = search needs
 
 walk-rows-loop-again : (t : ℕ) → walk-rows-lts.Need-loop-again (calls t) (walk-rows-at t) walk-rows.Post walk-rows-Inv-loop walk-rows-μ-loop
-walk-rows-loop-again t c = 
+walk-rows-loop-again t c =
     ⊎-elim
-    (λ w. (rw (w .6) (walk-past _ _ (c .before .before .before .before .before .before .before .before .args .rows .now) (c .before .before .before .before .before .loop .left) (c .before .before .before .before .before .loop .i) (c .before .before .before .before .before .loop .inv .0) (c .before .before .before .before .loop-test .taken) (c .before .before .before .if2 .left) _ (c .before .before .row-at .ensures) (w .0 .taken) _ (w .1 .ensures .0) _ (w .2 .ensures .0) _ (w .4 .given .1)),
-      rw (w .6) (past-inside _ _ _ (w .4 .given .1) (w .2 .ensures .1))))
+    (λ w. (
+      rw (w .6) (walk-past _ _ (c .before .before .before .before .before .before .before .before .args .rows .now) (c .before .before .before .before .before .loop .left) (c .before .before .before .before .before .loop .i) (c .before .before .before .before .before .loop .inv .0) (c .before .before .before .before .loop-test .taken) (c .before .before .before .if2 .left) _ (c .before .before .row-at .ensures) (w .0 .taken) _ (w .1 .ensures .0) _ (w .2 .ensures .0) _ (w .4 .given .1)),
+      rw (w .6) (past-inside _ _ _ (w .4 .given .1) (w .2 .ensures .1)),
+    ))
     (λ w. (rw (w .1) (walk-value _ _ (c .before .before .before .before .before .before .before .before .args .rows .now) (c .before .before .before .before .before .loop .left) (c .before .before .before .before .before .loop .i) (c .before .before .before .before .before .loop .inv .0) (c .before .before .before .before .loop-test .taken) (c .before .before .before .if2 .left) _ (c .before .before .row-at .ensures) (w .0 .left)), omega (arith, w .1)))
     (c .if3 .came)
 

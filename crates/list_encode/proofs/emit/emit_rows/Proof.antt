@@ -1,42 +1,15 @@
 -- `list_encode::emit::emit_rows` meets its contract. The invariant: the buffer at the end is what the rows from `at` on make of it, and there is room and store for them.
-use Prim.Native.Nat.{ℕ, _+_, _-_, _*_, _≤_, _<_, _^_}
-use mathlib.Core.Path.{_≡_, refl, sym, ap, _∙_}
-use mathlib.Core.Bool.{true, false, not, cond, _&&_}
-use mathlib.Core.Logic.{⊎-elim}
-use mathlib.Core.List.{List, [], _∷_, _++_}
+use Prim.Native.Nat.{ℕ, _+_, _-_, _≤_}
+use mathlib.Core.Path.{_≡_, refl, ap, _∙_}
 use native.Mathlib.Omega.{arith}
-use lib.Dec.{eqb, ltb, leb}
-use lib.ListN.{length, getD, take, drop}
+use lib.ListN.{length, drop}
 use lib.Seq.{sets}
 use borrow.Author.Needs.{needs}
-use borrow.Author.Tests.{eq-eqb, ne-eqb, lt-ltb, le-ltb, le-leb, lt-leb}
-use Rattle.wire.specs.Zero.{hasZero}
-use Rattle.wire.proofs.Buffers.{put-fits}
-use Rattle.list.specs.Kind.{kindOf, listCode}
 use Rattle.list.specs.Limits.{listLimit}
-use Rattle.list.specs.Bytes.{number, common}
-use Rattle.list_encode.specs.Described.{part}
-use Rattle.list_encode.specs.Encode.{outcome}
-use Rattle.list_encode.specs.Row.{rowAt, gained, kindStored, foundStored, stored}
-use Rattle.list_encode.specs.Shape.{placed, textual, kindFits, foundFits, rowFits, shape, listShape}
-use Rattle.list_encode.specs.Walk.{walk, walkIn, isDeep, tooDeep, Inside}
-use Rattle.list_encode.specs.Emit.{kindBytes, foundBytes, commonIn, typedOr, codeAhead, rowBytes, leftAfter, emit, kindSize, foundSize, rowSize, sizeFrom, capped, storedFrom}
-use Rattle.list_encode.specs.Flat.{flatOf}
-use Rattle.list_encode.proofs.Rows.{size-low, part-length}
-use Rattle.list_encode.proofs.Shapes.{placed-inside, fits-inside, turn-over, turn-few, turn-end, turn-stop, turn-goes, shape-stored, list-row, no-row}
-use Rattle.list_encode.proofs.Walks.{walk-down, walk-shut, walk-done, walk-short, walk-value, walk-deeper, walk-past, past-inside}
-use Rattle.list_encode.proofs.Emits.{common-none, common-short, common-turn, size-short, size-turn, stored-turn, capped-over, capped-is, capped-low, capped-high, row-size, emit-size, put-chain, emit-done, emit-turn, sets-over}
-use Rattle.list_encode.proofs.Encoding.{stored-all, answer-room, answer-none, answer-deep, answer-long, answer-written}
+use Rattle.list_encode.specs.Emit.{codeAhead, leftAfter, emit, sizeFrom, storedFrom}
+use Rattle.list_encode.proofs.Emits.{size-turn, stored-turn, row-size, emit-done, emit-turn}
 use Rattle.list_encode.proofs.emit.emit_rows.Statement.{statement}
 use Rattle.list_encode.proofs.emit.emit_rows.Tie as tie
-use Rattle.list_encode.proofs.emit.emit_rows.Reads as reads
-use Rattle.list_encode.proofs.emit.emit_rows.Lts as lts
-use Rattle.list_encode.proofs.emit.put_row.Reads as put-row-reads
-use Rattle.list_encode.proofs.look.code_ahead.Reads as code-ahead-reads
-use Rattle.list_encode.proofs.look.left_after.Reads as left-after-reads
-use Rattle.list_encode.proofs.row.row_at.Reads as row-at-reads
-use Rattle.list_encode.proofs.row.stored_by.Reads as stored-by-reads
-use Rattle.list_encode.proofs.size.row_size.Reads as row-size-reads
 
 abbrev Inv-loop : tie.InvT-loop
 Inv-loop rows store buffer₀ at₀ left₀ used₀ end₀ buffer at left used end = (sets buffer₀ 0 (emit store rows 0 0) ≡ sets buffer end (emit store (drop at rows) left used)) × (end + sizeFrom (drop at rows) left ≤ listLimit) × (at ≤ length rows) × (used + storedFrom (drop at rows) ≤ length store) × (length buffer ≡ length buffer₀)
@@ -60,10 +33,11 @@ code-ahead-requires : tie.Need-code-ahead-requires Inv-loop μ-loop
 code-ahead-requires c κs = search needs
 
 put-row-requires : tie.Need-put-row-requires Inv-loop μ-loop
-put-row-requires c κs = 
-    (omega (arith, size-turn (c .before .before .before .before .before .before .before .before .args .rows .now) (c .before .before .before .before .loop .at) (omega (arith, c .before .before .before .loop-test .taken, c .before .before .before .before .loop .inv .2)) (c .before .before .row-at .result) (c .before .before .row-at .ensures) (c .before .before .before .before .loop .left), c .before .before .before .before .loop .inv .1),
-      omega (arith, c .before .before .before .before .loop .inv .4, c .before .before .before .before .before .before .before .before .pre .2),
-      omega (arith, stored-turn (c .before .before .before .before .before .before .before .before .args .rows .now) (c .before .before .before .before .loop .at) (omega (arith, c .before .before .before .loop-test .taken, c .before .before .before .before .loop .inv .2)) (c .before .before .row-at .result) (c .before .before .row-at .ensures), c .before .before .before .before .loop .inv .3))
+put-row-requires c κs = (
+  omega (arith, size-turn (c .before .before .before .before .before .before .before .before .args .rows .now) (c .before .before .before .before .loop .at) (omega (arith, c .before .before .before .loop-test .taken, c .before .before .before .before .loop .inv .2)) (c .before .before .row-at .result) (c .before .before .row-at .ensures) (c .before .before .before .before .loop .left), c .before .before .before .before .loop .inv .1),
+  omega (arith, c .before .before .before .before .loop .inv .4, c .before .before .before .before .before .before .before .before .pre .2),
+  omega (arith, stored-turn (c .before .before .before .before .before .before .before .before .args .rows .now) (c .before .before .before .before .loop .at) (omega (arith, c .before .before .before .loop-test .taken, c .before .before .before .before .loop .inv .2)) (c .before .before .row-at .result) (c .before .before .row-at .ensures), c .before .before .before .before .loop .inv .3),
+)
 
 row-size-requires : tie.Need-row-size-requires Inv-loop μ-loop
 row-size-requires c κs = search needs
@@ -84,20 +58,21 @@ loop-less : tie.Need-loop-less Inv-loop μ-loop
 loop-less c = search needs
 
 loop-again : tie.Need-loop-again Inv-loop μ-loop
-loop-again c = 
+loop-again c =
     let x = c .before .before .before .before .before .before .before .before .before .before .loop in
     let rows = c .before .before .before .before .before .before .before .before .before .before .before .before .before .before .args .rows .now in
     let r = c .before .before .before .before .before .before .before .before .row-at .result in
     let fits : x .at + 3 ≤ length rows = omega (arith, c .before .before .before .before .before .before .before .before .before .loop-test .taken, x .inv .2) in
     let t = stored-turn (c .before .before .before .before .before .before .before .before .before .before .before .before .before .before .args .rows .now) (c .before .before .before .before .before .before .before .before .before .before .loop .at) (omega (arith, c .before .before .before .before .before .before .before .before .before .loop-test .taken, c .before .before .before .before .before .before .before .before .before .before .loop .inv .2)) (c .before .before .before .before .before .before .before .before .row-at .result) (c .before .before .before .before .before .before .before .before .row-at .ensures) in
     let l : c .before .left-after .result ≡ leftAfter (x .left) (codeAhead (drop (x .at + 3) rows) r) r =
-      c .before .left-after .ensures ∙ ap (λ (z : ℕ). leftAfter (x .left) z r) (c .before .before .before .before .before .before .before .code-ahead .ensures) in
-    (emit-turn _ (c .before .before .before .before .before .before .before .before .before .before .before .before .before .before .args .store .now) rows (x .buffer) (x .at) (x .left) (x .used) (x .end) (x .inv .0) _ r _ _ _ _ fits (c .before .before .before .before .before .before .before .before .row-at .ensures)
-      (omega (arith, t, x .inv .3)) (c .before .before .before .before .before .before .before .code-ahead .ensures) (c .before .before .before .before .before .put-row .ensures) (c .before .before .row-size .ensures .0) (c .before .left-after .ensures) (c .stored-by .ensures .0),
+    c .before .left-after .ensures ∙ ap (λ (z : ℕ). leftAfter (x .left) z r) (c .before .before .before .before .before .before .before .code-ahead .ensures) in (
+      emit-turn _ (c .before .before .before .before .before .before .before .before .before .before .before .before .before .before .args .store .now) rows (x .buffer) (x .at) (x .left) (x .used) (x .end) (x .inv .0) _ r _ _ _ _ fits (c .before .before .before .before .before .before .before .before .row-at .ensures)
+          (omega (arith, t, x .inv .3)) (c .before .before .before .before .before .before .before .code-ahead .ensures) (c .before .before .before .before .before .put-row .ensures) (c .before .before .row-size .ensures .0) (c .before .left-after .ensures) (c .stored-by .ensures .0),
       rw l (omega (arith, x .inv .1, c .before .before .row-size .ensures .0, size-turn (c .before .before .before .before .before .before .before .before .before .before .before .before .before .before .args .rows .now) (c .before .before .before .before .before .before .before .before .before .before .loop .at) (omega (arith, c .before .before .before .before .before .before .before .before .before .loop-test .taken, c .before .before .before .before .before .before .before .before .before .before .loop .inv .2)) (c .before .before .before .before .before .before .before .before .row-at .result) (c .before .before .before .before .before .before .before .before .row-at .ensures) (x .left))),
       fits,
       omega (arith, t, x .inv .3, c .stored-by .ensures .0),
-      search needs)
+      search needs,
+    )
 
 same-length : tie.Need-same-length Inv-loop μ-loop
 same-length c = search needs

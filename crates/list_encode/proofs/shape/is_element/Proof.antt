@@ -1,40 +1,13 @@
 -- `list_encode::shape::is_element` meets its contract. The invariant: the answer for all rows is that for the rows from `at` on; `used` and `at` stay inside.
-use Prim.Native.Nat.{ℕ, _+_, _-_, _*_, _≤_, _<_, _^_}
-use mathlib.Core.Path.{_≡_, refl, sym, ap, _∙_}
-use mathlib.Core.Bool.{true, false, not, cond, _&&_}
-use mathlib.Core.Logic.{⊎-elim}
-use mathlib.Core.List.{List, [], _∷_, _++_}
+use Prim.Native.Nat.{_+_, _-_, _≤_}
+use mathlib.Core.Path.{_≡_, refl, sym, _∙_}
 use native.Mathlib.Omega.{arith}
-use lib.Dec.{eqb, ltb, leb}
-use lib.ListN.{length, getD, take, drop}
-use lib.Seq.{sets}
+use lib.ListN.{length, drop}
 use borrow.Author.Needs.{needs}
-use borrow.Author.Tests.{eq-eqb, ne-eqb, lt-ltb, le-ltb, le-leb, lt-leb}
-use Rattle.wire.specs.Zero.{hasZero}
-use Rattle.wire.proofs.Buffers.{put-fits}
-use Rattle.list.specs.Kind.{kindOf, listCode}
-use Rattle.list.specs.Limits.{listLimit}
-use Rattle.list.specs.Bytes.{number, common}
-use Rattle.list_encode.specs.Described.{part}
-use Rattle.list_encode.specs.Encode.{outcome}
-use Rattle.list_encode.specs.Row.{rowAt, gained, kindStored, foundStored, stored}
-use Rattle.list_encode.specs.Shape.{placed, textual, kindFits, foundFits, rowFits, shape, listShape}
-use Rattle.list_encode.specs.Walk.{walk, walkIn, isDeep, tooDeep, Inside}
-use Rattle.list_encode.specs.Emit.{kindBytes, foundBytes, commonIn, typedOr, codeAhead, rowBytes, leftAfter, emit, kindSize, foundSize, rowSize, sizeFrom, capped, storedFrom}
-use Rattle.list_encode.specs.Flat.{flatOf}
-use Rattle.list_encode.proofs.Rows.{size-low, part-length}
-use Rattle.list_encode.proofs.Shapes.{placed-inside, fits-inside, turn-over, turn-few, turn-end, turn-stop, turn-goes, shape-stored, list-row, no-row}
-use Rattle.list_encode.proofs.Walks.{walk-down, walk-shut, walk-done, walk-short, walk-value, walk-deeper, walk-past, past-inside}
-use Rattle.list_encode.proofs.Emits.{common-none, common-short, common-turn, size-short, size-turn, stored-turn, capped-over, capped-is, capped-low, capped-high, row-size, emit-size, put-chain, emit-done, emit-turn, sets-over}
-use Rattle.list_encode.proofs.Encoding.{stored-all, answer-room, answer-none, answer-deep, answer-long, answer-written}
+use Rattle.list_encode.specs.Shape.{shape}
+use Rattle.list_encode.proofs.Shapes.{fits-inside, turn-over, turn-few, turn-end, turn-stop, turn-goes}
 use Rattle.list_encode.proofs.shape.is_element.Statement.{statement}
 use Rattle.list_encode.proofs.shape.is_element.Tie as tie
-use Rattle.list_encode.proofs.shape.is_element.Reads as reads
-use Rattle.list_encode.proofs.shape.is_element.Lts as lts
-use Rattle.list_encode.proofs.row.gained_by.Reads as gained-by-reads
-use Rattle.list_encode.proofs.row.row_at.Reads as row-at-reads
-use Rattle.list_encode.proofs.row.stored_by.Reads as stored-by-reads
-use Rattle.list_encode.proofs.shape.row_fits.Reads as row-fits-reads
 
 abbrev Inv-loop : tie.InvT-loop
 Inv-loop rows store at₀ want₀ used₀ at want used = (shape store rows 1 0 ≡ shape store (drop at rows) want used) × (used ≤ length store) × (at ≤ length rows)
@@ -82,12 +55,13 @@ loop-less : tie.Need-loop-less Inv-loop μ-loop
 loop-less c = omega (arith, c .before .before .before .before .before .if2 .left, c .before .before .before .before .before .before .if1 .left, c .before .before .before .before .before .before .before .before .loop .inv .2)
 
 loop-again : tie.Need-loop-again Inv-loop μ-loop
-loop-again c = 
-    let fits : c .before .before .before .before .before .before .before .before .loop .at + 3 ≤ length (c .before .before .before .before .before .before .before .before .before .before .before .args .rows .now) = omega (arith, c .before .before .before .before .before .if2 .left, c .before .before .before .before .before .before .if1 .left, c .before .before .before .before .before .before .before .before .loop .inv .2) in
-    (turn-goes _ (c .before .before .before .before .before .before .before .before .before .before .before .args .store .now) (c .before .before .before .before .before .before .before .before .before .before .before .args .rows .now) (c .before .before .before .before .before .before .before .before .loop .at) (c .before .before .before .before .before .before .before .before .loop .want) (c .before .before .before .before .before .before .before .before .loop .used) (c .before .before .before .before .before .before .before .before .loop .inv .0) (omega (arith, c .before .before .before .before .before .before .if1 .left)) fits _ (c .before .before .before .before .row-at .ensures) _ (c .before .before .before .row-fits .ensures)
-      _ _ (c .before .before .if3 .taken) (c .before .gained-by .ensures .0) (c .stored-by .ensures .0),
+loop-again c =
+    let fits : c .before .before .before .before .before .before .before .before .loop .at + 3 ≤ length (c .before .before .before .before .before .before .before .before .before .before .before .args .rows .now) = omega (arith, c .before .before .before .before .before .if2 .left, c .before .before .before .before .before .before .if1 .left, c .before .before .before .before .before .before .before .before .loop .inv .2) in (
+      turn-goes _ (c .before .before .before .before .before .before .before .before .before .before .before .args .store .now) (c .before .before .before .before .before .before .before .before .before .before .before .args .rows .now) (c .before .before .before .before .before .before .before .before .loop .at) (c .before .before .before .before .before .before .before .before .loop .want) (c .before .before .before .before .before .before .before .before .loop .used) (c .before .before .before .before .before .before .before .before .loop .inv .0) (omega (arith, c .before .before .before .before .before .before .if1 .left)) fits _ (c .before .before .before .before .row-at .ensures) _ (c .before .before .before .row-fits .ensures)
+          _ _ (c .before .before .if3 .taken) (c .before .gained-by .ensures .0) (c .stored-by .ensures .0),
       rw (c .stored-by .ensures .0) (fits-inside (c .before .before .before .before .before .before .before .before .before .before .before .args .store .now) (c .before .before .before .before .before .before .before .before .loop .used) (c .before .before .before .before .row-at .result) (c .before .before .before .before .before .before .before .before .loop .inv .1) (sym (c .before .before .before .row-fits .ensures) ∙ c .before .before .if3 .taken)),
-      fits)
+      fits,
+    )
 
 returns-3 : tie.Need-returns-3 Inv-loop μ-loop
 returns-3 c = turn-stop _ (c .before .before .before .before .before .before .before .before .before .args .store .now) (c .before .before .before .before .before .before .before .before .before .args .rows .now) (c .before .before .before .before .before .before .loop .at) (c .before .before .before .before .before .before .loop .want) (c .before .before .before .before .before .before .loop .used) (c .before .before .before .before .before .before .loop .inv .0) (omega (arith, c .before .before .before .before .if1 .left)) (omega (arith, c .before .before .before .if2 .left, c .before .before .before .before .if1 .left, c .before .before .before .before .before .before .loop .inv .2)) _ (c .before .before .row-at .ensures) _ (c .before .row-fits .ensures) (c .if3 .left)

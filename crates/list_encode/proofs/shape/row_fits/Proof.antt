@@ -1,38 +1,10 @@
 -- `list_encode::shape::row_fits` meets its contract: the kind that was found is that of the code.
-use Prim.Native.Nat.{ℕ, _+_, _-_, _*_, _≤_, _<_, _^_}
-use mathlib.Core.Path.{_≡_, refl, sym, ap, _∙_}
-use mathlib.Core.Bool.{true, false, not, cond, _&&_}
-use mathlib.Core.Logic.{⊎-elim}
-use mathlib.Core.List.{List, [], _∷_, _++_}
-use native.Mathlib.Omega.{arith}
-use lib.Dec.{eqb, ltb, leb}
-use lib.ListN.{length, getD, take, drop}
-use lib.Seq.{sets}
+use mathlib.Core.Path.{sym, ap, _∙_}
 use borrow.Author.Needs.{needs}
-use borrow.Author.Tests.{eq-eqb, ne-eqb, lt-ltb, le-ltb, le-leb, lt-leb}
-use Rattle.wire.specs.Zero.{hasZero}
-use Rattle.wire.proofs.Buffers.{put-fits}
-use Rattle.list.specs.Kind.{kindOf, listCode}
-use Rattle.list.specs.Limits.{listLimit}
-use Rattle.list.specs.Bytes.{number, common}
-use Rattle.list_encode.specs.Described.{part}
-use Rattle.list_encode.specs.Encode.{outcome}
-use Rattle.list_encode.specs.Row.{rowAt, gained, kindStored, foundStored, stored}
-use Rattle.list_encode.specs.Shape.{placed, textual, kindFits, foundFits, rowFits, shape, listShape}
-use Rattle.list_encode.specs.Walk.{walk, walkIn, isDeep, tooDeep, Inside}
-use Rattle.list_encode.specs.Emit.{kindBytes, foundBytes, commonIn, typedOr, codeAhead, rowBytes, leftAfter, emit, kindSize, foundSize, rowSize, sizeFrom, capped, storedFrom}
-use Rattle.list_encode.specs.Flat.{flatOf}
-use Rattle.list_encode.proofs.Rows.{size-low, part-length}
-use Rattle.list_encode.proofs.Shapes.{placed-inside, fits-inside, turn-over, turn-few, turn-end, turn-stop, turn-goes, shape-stored, list-row, no-row}
-use Rattle.list_encode.proofs.Walks.{walk-down, walk-shut, walk-done, walk-short, walk-value, walk-deeper, walk-past, past-inside}
-use Rattle.list_encode.proofs.Emits.{common-none, common-short, common-turn, size-short, size-turn, stored-turn, capped-over, capped-is, capped-low, capped-high, row-size, emit-size, put-chain, emit-done, emit-turn, sets-over}
-use Rattle.list_encode.proofs.Encoding.{stored-all, answer-room, answer-none, answer-deep, answer-long, answer-written}
+use borrow.Author.Tests.{eq-eqb, ne-eqb}
+use Rattle.list_encode.specs.Shape.{foundFits, rowFits}
 use Rattle.list_encode.proofs.shape.row_fits.Statement.{statement}
 use Rattle.list_encode.proofs.shape.row_fits.Tie as tie
-use Rattle.list_encode.proofs.shape.row_fits.Reads as reads
-use Rattle.list_encode.proofs.shape.row_fits.Lts as lts
-use Rattle.list.proofs.Kind.of_code.Reads as of-code-reads
-use Rattle.list_encode.proofs.shape.kind_fits.Reads as kind-fits-reads
 
 returns : tie.Need-returns
 unfolding rowFits
@@ -52,14 +24,14 @@ enum-told c = search needs
 
 returns-2 : tie.Need-returns-2
 unfolding rowFits
-returns-2 c = 
+returns-2 c =
     let a = c .before .before .before .before .before .before .before .before .args in
     c .kind-fits .ensures
     ∙ rw (ne-eqb _ _ (c .before .before .before .before .before .if1 .left)) (ap (foundFits (a .store .now) (a .used) (a .row .second) (a .row .third)) (sym (c .before .before .found .given .1) ∙ c .before .before .before .before .of-code .ensures))
 
 returns-3 : tie.Need-returns-3
 unfolding rowFits
-returns-3 c = 
+returns-3 c =
     let a = c .before .before .before .before .before .before .args in
     rw (ne-eqb _ _ (c .before .before .before .if1 .left)) (ap (foundFits (a .store .now) (a .used) (a .row .second) (a .row .third)) (sym (c .enum-told .given .1) ∙ c .before .before .of-code .ensures))
 

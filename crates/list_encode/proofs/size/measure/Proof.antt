@@ -1,40 +1,14 @@
 -- `list_encode::size::measure` meets its contract. The invariant: the size of all rows is `total` and the size of the rows from `at` on.
-use Prim.Native.Nat.{ℕ, _+_, _-_, _*_, _≤_, _<_, _^_}
-use mathlib.Core.Path.{_≡_, refl, sym, ap, _∙_}
-use mathlib.Core.Bool.{true, false, not, cond, _&&_}
-use mathlib.Core.Logic.{⊎-elim}
-use mathlib.Core.List.{List, [], _∷_, _++_}
+use Prim.Native.Nat.{ℕ, _+_, _-_, _≤_}
+use mathlib.Core.Path.{_≡_, ap, _∙_}
 use native.Mathlib.Omega.{arith}
-use lib.Dec.{eqb, ltb, leb}
-use lib.ListN.{length, getD, take, drop}
-use lib.Seq.{sets}
+use lib.ListN.{length, drop}
 use borrow.Author.Needs.{needs}
-use borrow.Author.Tests.{eq-eqb, ne-eqb, lt-ltb, le-ltb, le-leb, lt-leb}
-use Rattle.wire.specs.Zero.{hasZero}
-use Rattle.wire.proofs.Buffers.{put-fits}
-use Rattle.list.specs.Kind.{kindOf, listCode}
 use Rattle.list.specs.Limits.{listLimit}
-use Rattle.list.specs.Bytes.{number, common}
-use Rattle.list_encode.specs.Described.{part}
-use Rattle.list_encode.specs.Encode.{outcome}
-use Rattle.list_encode.specs.Row.{rowAt, gained, kindStored, foundStored, stored}
-use Rattle.list_encode.specs.Shape.{placed, textual, kindFits, foundFits, rowFits, shape, listShape}
-use Rattle.list_encode.specs.Walk.{walk, walkIn, isDeep, tooDeep, Inside}
-use Rattle.list_encode.specs.Emit.{kindBytes, foundBytes, commonIn, typedOr, codeAhead, rowBytes, leftAfter, emit, kindSize, foundSize, rowSize, sizeFrom, capped, storedFrom}
-use Rattle.list_encode.specs.Flat.{flatOf}
-use Rattle.list_encode.proofs.Rows.{size-low, part-length}
-use Rattle.list_encode.proofs.Shapes.{placed-inside, fits-inside, turn-over, turn-few, turn-end, turn-stop, turn-goes, shape-stored, list-row, no-row}
-use Rattle.list_encode.proofs.Walks.{walk-down, walk-shut, walk-done, walk-short, walk-value, walk-deeper, walk-past, past-inside}
-use Rattle.list_encode.proofs.Emits.{common-none, common-short, common-turn, size-short, size-turn, stored-turn, capped-over, capped-is, capped-low, capped-high, row-size, emit-size, put-chain, emit-done, emit-turn, sets-over}
-use Rattle.list_encode.proofs.Encoding.{stored-all, answer-room, answer-none, answer-deep, answer-long, answer-written}
+use Rattle.list_encode.specs.Emit.{codeAhead, leftAfter, sizeFrom}
+use Rattle.list_encode.proofs.Emits.{size-short, size-turn, capped-over, capped-is, row-size}
 use Rattle.list_encode.proofs.size.measure.Statement.{statement}
 use Rattle.list_encode.proofs.size.measure.Tie as tie
-use Rattle.list_encode.proofs.size.measure.Reads as reads
-use Rattle.list_encode.proofs.size.measure.Lts as lts
-use Rattle.list_encode.proofs.look.code_ahead.Reads as code-ahead-reads
-use Rattle.list_encode.proofs.look.left_after.Reads as left-after-reads
-use Rattle.list_encode.proofs.row.row_at.Reads as row-at-reads
-use Rattle.list_encode.proofs.size.row_size.Reads as row-size-reads
 
 abbrev Inv-loop : tie.InvT-loop
 Inv-loop rows at₀ left₀ total₀ at left total = (sizeFrom rows 0 ≡ total + sizeFrom (drop at rows) left) × (at ≤ length rows) × (total ≤ listLimit)
@@ -61,7 +35,7 @@ add-result : tie.Need-add-result Inv-loop μ-loop
 add-result c = search needs
 
 returns : tie.Need-returns Inv-loop μ-loop
-returns c = 
+returns c =
     let x = c .before .before .before .before .loop in
     let rows = c .before .before .before .before .before .before .args .rows .now in
     let r = c .before .before .row-at .result in
@@ -84,11 +58,11 @@ loop-less : tie.Need-loop-less Inv-loop μ-loop
 loop-less c = search needs
 
 loop-again : tie.Need-loop-again Inv-loop μ-loop
-loop-again c = 
+loop-again c =
     let x = c .before .before .before .before .before .before .loop in
     let r = c .before .before .before .before .row-at .result in
     let e : c .left-after .result ≡ leftAfter (x .left) (codeAhead (drop (x .at + 3) (c .before .before .before .before .before .before .before .before .args .rows .now)) r) r =
-      c .left-after .ensures ∙ ap (λ (z : ℕ). leftAfter (x .left) z r) (c .before .code-ahead .ensures) in
+    c .left-after .ensures ∙ ap (λ (z : ℕ). leftAfter (x .left) z r) (c .before .code-ahead .ensures) in
     (rw e (omega (arith, x .inv .0, c .before .before .before .row-size .ensures .0, size-turn (c .before .before .before .before .before .before .before .before .args .rows .now) (c .before .before .before .before .before .before .loop .at) (omega (arith, c .before .before .before .before .before .loop-test .taken, c .before .before .before .before .before .before .loop .inv .1)) (c .before .before .before .before .row-at .result) (c .before .before .before .before .row-at .ensures) (c .before .before .before .before .before .before .loop .left))), search needs, search needs)
 
 returns-2 : tie.Need-returns-2 Inv-loop μ-loop
