@@ -10,6 +10,7 @@ use lib.Dec.{eqb}
 use lib.ListN.{length, getD, drop, length-append, length-drop}
 use lib.Seq.{drop-length}
 use borrow.Author.Tests.{eq-eqb, le-leb, eqb-true}
+use Rattle.wire.proofs.Chains.{and-true}
 use Rattle.list.specs.declared.Kind.{Kind}
 use Rattle.list.specs.declared.Kind.the-variants.{Int, Float, Str, Blob, Vocab}
 use Rattle.list.specs.declared.KindFound.{KindFound}
@@ -124,9 +125,6 @@ record Cut (n m used : ℕ) (es : Elements) : Type 0 where
   rows-are : elementRows used es ≡ elementRows used i ++ elementRows (used + length (elementStore i)) j
   store-is : elementStore es ≡ elementStore i ++ elementStore j
 
-and-both : (a b : Bool) → a ≡ true → b ≡ true → (a && b) ≡ true
-and-both a b p q = rw (p, q)
-
 cut : (n m used : ℕ) (es : Elements) → count es ≡ n + m → allowed es ≡ true → Cut n m used es
 cut zero m used es h l =
     record { i = none; j = es; first = refl; second = omega arith; allowed-i = refl; allowed-j = l; rows-are = rw (add-zero used); store-is = refl }
@@ -140,7 +138,7 @@ cut (suc n) m used (value v es) h l =
       j = r .j;
       first = ap suc (r .first);
       second = r .second;
-      allowed-i = and-both (allowedValue v) (allowed (r .i)) (x .0) (r .allowed-i);
+      allowed-i = and-true (allowedValue v) (allowed (r .i)) (x .0) (r .allowed-i);
       allowed-j = r .allowed-j;
       rows-are = ap (λ (z : List ℕ). valueRow used v ++ z) (r .rows-are)
           ∙ rw (used-value v (r .i) used) (sym (append-assoc (valueRow used v) (elementRows u (r .i)) _));
@@ -156,7 +154,7 @@ cut (suc n) m used (list a es) h l =
       j = r .j;
       first = ap suc (r .first);
       second = r .second;
-      allowed-i = and-both (natural (count a)) _ (x .0) (and-both (allowed a) (allowed (r .i)) (y .0) (r .allowed-i));
+      allowed-i = and-true (natural (count a)) _ (x .0) (and-true (allowed a) (allowed (r .i)) (y .0) (r .allowed-i));
       allowed-j = r .allowed-j;
       rows-are = ap (λ (z : List ℕ). listRow a ++ (elementRows used a ++ z)) (r .rows-are)
           ∙ rw (used-list a (r .i) used) (ap (λ (z : List ℕ). listRow a ++ z) (sym (append-assoc (elementRows used a) (elementRows u (r .i)) _)));
@@ -208,7 +206,7 @@ module _ (s : List ℕ) where
       let b = bytes-at used (r .second) (r .third) u (x .0) in
       record {
         v = str (part s used (r .third));
-        ok = and-both _ _ (b .small) (x .1);
+        ok = and-true _ _ (b .small) (x .1);
         row-is = three _ _ _ _ _ _ [] e (b .at-used) (b .size);
         bytes = b .front;
         no-gain = rw e;
@@ -256,7 +254,7 @@ module _ (s : List ℕ) where
       record {
         tree = value (w .v) (x .tree);
         many = ap suc (x .many ∙ rw (w .no-gain) (add-zero want));
-        fine = and-both (allowedValue (w .v)) (allowed (x .tree)) (w .ok) (x .fine);
+        fine = and-true (allowedValue (w .v)) (allowed (x .tree)) (w .ok) (x .fine);
         rows-are = ap (λ (z : List ℕ). z ++ rows) (w .row-is) ∙ ap (λ (z : List ℕ). valueRow used (w .v) ++ z) (x .rows-are ∙ ap (λ (z : ℕ). elementRows (used + z) (x .tree)) (w .takes));
         store-is = w .bytes ∙ ap (λ (z : List ℕ). valueStore (w .v) ++ z) (ap (λ (k : ℕ). drop (used + k) s) (sym (w .takes)) ∙ x .store-is);
       }
@@ -269,7 +267,7 @@ module _ (s : List ℕ) where
       record {
         tree = list (k .i) (k .j);
         many = ap suc (k .second);
-        fine = and-both (natural (count (k .i))) _ (ap natural (k .first) ∙ w .small) (and-both (allowed (k .i)) (allowed (k .j)) (k .allowed-i) (k .allowed-j));
+        fine = and-true (natural (count (k .i))) _ (ap natural (k .first) ∙ w .small) (and-true (allowed (k .i)) (allowed (k .j)) (k .allowed-i) (k .allowed-j));
         rows-are = three _ _ _ _ _ _ rows (w .code-is) (sym (k .first)) (w .third-is)
             ∙ ap (λ (z : List ℕ). 256 ∷ count (k .i) ∷ 0 ∷ z) (x .rows-are ∙ ap (λ (z : ℕ). elementRows z (x .tree)) e ∙ k .rows-are);
         store-is = ap (λ (z : ℕ). drop z s) (sym e) ∙ x .store-is ∙ k .store-is;
@@ -304,26 +302,26 @@ one-list (list i none) used c h = (i, refl)
 one-list (list i (value v es)) used c h = absurd (omega arith)
 one-list (list i (list k es)) used c h = absurd (omega arith)
 
--- the list that rows and store are those of
-pub record ListOf (rows store : List ℕ) : Type 0 where
-  pub es : Elements
+-- rows and store are those of this list, and its strings, counts and lengths are as they may be
+pub record Told (rows store : List ℕ) (es : Elements) : Type 0 where
   pub rows-are : rows ≡ listRows es
   pub store-is : store ≡ listStore es
   pub few : natural (count es) ≡ true
   pub fine : allowed es ≡ true
 
-pub shape-sound : (rows store : List ℕ) → listShape rows store ≡ true → ListOf rows store
+pub shape-sound : (rows store : List ℕ) → listShape rows store ≡ true → (es : Elements) × Told rows store es
 unfolding listShape
 shape-sound rows store h =
     let x = both (eqb (getD rows 0 0) listCode) _ h in
     let r = accepted store rows 1 0 (omega arith) (x .1) in
     let o = one-list (r .tree) 0 (r .many) (ap (λ (z : List ℕ). getD z 0 0) (sym (r .rows-are)) ∙ eqb-true _ _ (x .0)) in
     let i : Elements = o .0 in
-    let f = both (natural (count i)) _ (ap allowed (sym (o .1)) ∙ r .fine) in
-    record {
-      es = i;
-      rows-are = r .rows-are ∙ ap (elementRows 0) (o .1) ∙ ap (λ (z : List ℕ). listRow i ++ z) (append-nil (elementRows 0 i));
-      store-is = r .store-is ∙ ap elementStore (o .1) ∙ append-nil (elementStore i);
-      few = f .0;
-      fine = both (allowed i) _ (f .1) .0;
-    }
+    let f = both (natural (count i)) _ (ap allowed (sym (o .1)) ∙ r .fine) in (
+      i,
+      record {
+        rows-are = r .rows-are ∙ ap (elementRows 0) (o .1) ∙ ap (λ (z : List ℕ). listRow i ++ z) (append-nil (elementRows 0 i));
+        store-is = r .store-is ∙ ap elementStore (o .1) ∙ append-nil (elementStore i);
+        few = f .0;
+        fine = both (allowed i) _ (f .1) .0;
+      },
+    )

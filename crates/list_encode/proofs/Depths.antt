@@ -116,9 +116,6 @@ module _ (rows : List ℕ) where
   walk-deep (list i es) (suc d) n at used rest l h =
       go (leb (nested i) d) refl (λ g. walk-deep i d 0 (at + 3) used _ g (p .1)) (λ g. walk-deep es (suc d) n (at + 3 + x) (used + length (elementStore i)) rest g (p .2))
     where
-      y : List ℕ
-      y = elementRows (used + length (elementStore i)) es
-
       p : (drop at rows ≡ listRow i ++ (elementRows used i ++ (elementRows (used + length (elementStore i)) es ++ rest)))
           × (drop (at + 3) rows ≡ elementRows used i ++ (elementRows (used + length (elementStore i)) es ++ rest))
           × (drop (at + 3 + length (elementRows used i)) rows ≡ elementRows (used + length (elementStore i)) es ++ rest)
@@ -144,7 +141,7 @@ module _ (rows : List ℕ) where
 -- rows are too deep where the list is
 pub deep-is : (es : Elements) → tooDeep (listRows es) ≡ ltb depthLimit (depth es)
 unfolding tooDeep
-deep-is es = go (leb (nested es) 7) refl
+deep-is es = go (leb (nested es) (depthLimit - 1)) refl
   where
     w : List ℕ
     w = listRows es
@@ -155,10 +152,10 @@ deep-is es = go (leb (nested es) 7) refl
     c : count es ≡ count es + 0
     c = sym (add-zero (count es))
 
-    go : (b : Bool) → leb (nested es) 7 ≡ b → isDeep (walk 8 w (count es) 3) ≡ ltb 8 (suc (nested es))
+    go : (b : Bool) → leb (nested es) (depthLimit - 1) ≡ b → isDeep (walk depthLimit w (count es) 3) ≡ ltb depthLimit (suc (nested es))
     go true e =
-        ap (λ (z : ℕ). isDeep (walk 8 w z 3)) c ∙ ap isDeep (walk-shallow w es 7 0 3 0 [] (leb-true _ _ e) h ∙ walk-none w 7 _)
-        ∙ sym (le-ltb 8 (suc (nested es)) (omega (arith, leb-true (nested es) 7 e)))
+        ap (λ (z : ℕ). isDeep (walk depthLimit w z 3)) c ∙ ap isDeep (walk-shallow w es (depthLimit - 1) 0 3 0 [] (leb-true _ _ e) h ∙ walk-none w (depthLimit - 1) _)
+        ∙ sym (le-ltb depthLimit (suc (nested es)) (omega (arith, leb-true (nested es) (depthLimit - 1) e)))
     go false e =
-        ap (λ (z : ℕ). isDeep (walk 8 w z 3)) c ∙ ap isDeep (walk-deep w es 7 0 3 0 [] (leb-false _ _ e) h)
-        ∙ sym (lt-ltb 8 (suc (nested es)) (omega (arith, leb-false (nested es) 7 e)))
+        ap (λ (z : ℕ). isDeep (walk depthLimit w z 3)) c ∙ ap isDeep (walk-deep w es (depthLimit - 1) 0 3 0 [] (leb-false _ _ e) h)
+        ∙ sym (lt-ltb depthLimit (suc (nested es)) (omega (arith, leb-false (nested es) (depthLimit - 1) e)))

@@ -14,7 +14,7 @@ use Rattle.list.specs.Tree.{Value, Elements, int, vocab, float, str, blob, none
 use Rattle.list.specs.Rows.{valueStore, elementStore, valueRow, elementRows, listRows, listStore}
 use Rattle.list_encode.specs.Described.{firstOf, restOf, elementsOf, outermost, natural, allowed, same, describes, described}
 use Rattle.list_encode.proofs.Rows.{clash, both, part-is}
-use Rattle.list_encode.proofs.Accepted.{past-value, past-list}
+use Rattle.list_encode.proofs.Accepted.{past-value, past-list, Told}
 
 -- the elements of a list, then others
 unfoldable joined : Elements → Elements → Elements
@@ -104,12 +104,6 @@ same-equal (x ∷ xs) (y ∷ ys) h =
 pub described-complete : (es : Elements) → natural (count es) ≡ true → allowed es ≡ true → described (listRows es) (listStore es) ≡ some es
 unfolding described describes
 described-complete es n l = rw (read-back es, same-refl (listRows es), same-refl (listStore es), n, l)
-
-pub record Told (rows store : List ℕ) (es : Elements) : Type 0 where
-  pub rows-are : rows ≡ listRows es
-  pub store-is : store ≡ listStore es
-  pub few : natural (count es) ≡ true
-  pub fine : allowed es ≡ true
 
 describes-told : (rows store : List ℕ) (es : Elements) → describes rows store es ≡ true → Told rows store es
 unfolding describes

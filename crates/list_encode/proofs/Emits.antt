@@ -133,9 +133,6 @@ pub row-size : (s : List ℕ) (used left code : ℕ) (r : Row) → used + stored
 unfolding rowBytes rowSize stored
 row-size s used left code r h = go (eqb (r .code) listCode) (eqb left 0)
   where
-    x : List ℕ
-    x = foundBytes s used (r .second) (r .third) (kindOf (r .code))
-
     go : (a b : Bool) → length (cond a (number code ++ number (r .second)) (cond b (number code) [] ++ foundBytes s used (r .second) (r .third) (kindOf (r .code))))
         ≡ cond a 8 (cond b 4 0 + foundSize (r .third) (kindOf (r .code)))
     go true b = refl

@@ -23,8 +23,8 @@ use Rattle.list_encode.specs.Flat.{flatOf}
 use Rattle.list_encode.proofs.Rows.{clash, both}
 use Rattle.list_encode.proofs.Shapes.{shape-stored}
 use Rattle.list_encode.proofs.Emits.{capped-low, capped-high, emit-size, sets-over}
-use Rattle.list_encode.proofs.Accepted.{ListOf, shape-complete, shape-sound}
-use Rattle.list_encode.proofs.Described.{Told, described-complete, described-none}
+use Rattle.list_encode.proofs.Accepted.{Told, shape-complete, shape-sound}
+use Rattle.list_encode.proofs.Described.{described-complete, described-none}
 use Rattle.list_encode.proofs.Depths.{deep-is}
 use Rattle.list_encode.proofs.Emitted.{emit-list}
 
@@ -39,17 +39,12 @@ passed-is : (es : Elements) (buffer : List ℕ) → passed (listRows es) (listSt
 unfolding passed writtenList
 passed-is es buffer = rw (deep-is es, emit-list es)
 
-shaped-is : (rows store buffer : List ℕ) (x : ListOf rows store) → passed rows store buffer ≡ answered listLimit buffer (described rows store)
-shaped-is rows store buffer x =
-    ap (λ (z : List ℕ). passed z store buffer) (x .rows-are) ∙ ap (λ (z : List ℕ). passed (listRows (x .es)) z buffer) (x .store-is)
-    ∙ passed-is (x .es) buffer
-    ∙ ap (answered listLimit buffer) (sym (ap (λ (z : List ℕ). described z store) (x .rows-are) ∙ ap (described (listRows (x .es))) (x .store-is)
-    ∙ described-complete (x .es) (x .few) (x .fine)))
+shaped-is : (rows store buffer : List ℕ) (es : Elements) → Told rows store es → passed rows store buffer ≡ answered listLimit buffer (described rows store)
+shaped-is rows store buffer es t = rw (t .rows-are, t .store-is, described-complete es (t .few) (t .fine)) (passed-is es buffer)
 
 unshaped : (rows store : List ℕ) → listShape rows store ≡ false → (es : Elements) → Told rows store es → ⊥
 unshaped rows store h es t =
-    let y : listShape rows store ≡ true =
-    ap (λ (z : List ℕ). listShape z store) (t .rows-are) ∙ ap (listShape (listRows es)) (t .store-is) ∙ shape-complete es (t .few) (t .fine) in
+    let y : listShape rows store ≡ true = rw (t .rows-are, t .store-is) (shape-complete es (t .few) (t .fine)) in
     clash (sym h ∙ y)
 
 pub flat-is : (rows store buffer : List ℕ) → flatOf rows store buffer ≡ encodeOf rows store buffer
@@ -57,7 +52,7 @@ unfolding flatOf encodeOf passed
 flat-is rows store buffer = ap (cond (ltb (length buffer) listLimit) (outcome (Refused 20) buffer)) (go (listShape rows store) refl)
   where
     go : (b : Bool) → listShape rows store ≡ b → cond b (passed rows store buffer) (outcome (Refused 30) buffer) ≡ answered listLimit buffer (described rows store)
-    go true e = shaped-is rows store buffer (shape-sound rows store e)
+    go true e = let x = shape-sound rows store e in shaped-is rows store buffer (x .0) (x .1)
     go false e = sym (ap (answered listLimit buffer) (described-none rows store (unshaped rows store e)))
 
 -- all rows of a list use the whole store

@@ -1,5 +1,5 @@
 -- What is described is a list of legal values, and every legal list can be described.
-use Prim.Native.Nat.{ℕ, zero, suc, _+_, _^_, _≤_, _<_}
+use Prim.Native.Nat.{ℕ, zero, suc, _+_, _-_, _^_, _≤_, _<_}
 use mathlib.Core.Path.{_≡_, refl, sym}
 use mathlib.Core.Bool.{true, false, not}
 use mathlib.Core.Logic.{_↔_}
@@ -11,6 +11,7 @@ use borrow.Author.Tests.{lt-ltb, ltb-true, not-true}
 use Rattle.wire.specs.Number.{Bytes}
 use Rattle.wire.specs.Zero.{hasZero}
 use Rattle.wire.proofs.Chains.{and-true}
+use Rattle.list.specs.Limits.{depthLimit}
 use Rattle.list.specs.Tree.{Value, Elements, int, vocab, float, str, blob, none, value, list, count}
 use Rattle.list.specs.Bytes.{listCodeOf, elementBytes, listBytes}
 use Rattle.list.specs.Rows.{valueStore, elementStore, valueRow, elementRows, elementCount, listRows, listStore}
@@ -141,7 +142,7 @@ unfolding listBytes
 elements-shorter es = omega arith
 
 -- a legal list can be described and is not too deep
-pub list-writable : (limit : ℕ) (es : Elements) → limit < 2 ^ 31 → Legal limit es → Writable (list es none) × (nested es ≤ 7)
+pub list-writable : (limit : ℕ) (es : Elements) → limit < 2 ^ 31 → Legal limit es → Writable (list es none) × (nested es ≤ depthLimit - 1)
 list-writable limit es small l =
-    let x = legal-writable es 7 (listCodeOf es) (l .0) (omega (arith, l .1, elements-shorter es)) in
+    let x = legal-writable es (depthLimit - 1) (listCodeOf es) (l .0) (omega (arith, l .1, elements-shorter es)) in
     ((omega (arith, l .1, count-small (listCodeOf es) es, elements-shorter es), x .0, tt), x .1)

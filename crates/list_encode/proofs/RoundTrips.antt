@@ -1,5 +1,5 @@
 -- Every legal list is written, only legal lists are, and reading and writing undo each other.
-use Prim.Native.Nat.{ℕ, _≤_}
+use Prim.Native.Nat.{ℕ, _-_, _≤_}
 use mathlib.Core.Path.{_≡_, refl, sym, ap, _∙_}
 use mathlib.Core.Bool.{Bool, true, false, cond}
 use mathlib.Core.List.{List, _++_}
@@ -45,7 +45,7 @@ past-refusal true number n buffer o h = absurd (let z : _≡_ {A = ℕ} 0 1 = cc
 
 -- a list that is written is not too deep and not too long
 list-kept : (es : Elements) (buffer : List ℕ) (n : ℕ) → (writtenList listLimit es buffer) .answer ≡ Written n
-    → (nested es ≤ 7) × (length (listBytes es) ≤ listLimit) × (n ≡ length (listBytes es)) × (writtenList listLimit es buffer ≡ written es buffer)
+    → (nested es ≤ depthLimit - 1) × (length (listBytes es) ≤ listLimit) × (n ≡ length (listBytes es)) × (writtenList listLimit es buffer ≡ written es buffer)
 unfolding writtenList
 list-kept es buffer n h =
     let x = past-refusal (ltb depthLimit (depth es)) 27 n buffer _ h in
@@ -70,7 +70,7 @@ option-kept rows store buffer n w b (some es) e h all =
     let k = list-kept es buffer n h in
     record {
       es = es;
-      legal = (writable-legal es 7 (t .2 .1) (k .0), k .1);
+      legal = (writable-legal es (depthLimit - 1) (t .2 .1) (k .0), k .1);
       rows-are = t .0;
       store-is = t .1;
       size = k .2;

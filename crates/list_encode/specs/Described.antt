@@ -45,6 +45,7 @@ restOf (suc n) (list inner es) = restOf n es
 abbrev pub listOf : ℕ → Elements → Elements
 listOf n es = list (firstOf n es) (restOf n es)
 
+-- an element in front of others; a row of an unknown code tells of nothing
 abbrev pub valueBefore : List ℕ → ℕ → ℕ → Elements → KindFound → Elements
 valueBefore store second third es (Is k) = value (valueOf store second third k) es
 valueBefore store second third es Unknown = none
@@ -67,7 +68,7 @@ outermost (list es rest) = es
 abbrev pub natural : ℕ → Bool
 natural n = ltb n 2147483648
 
--- "No other zero stands in a string."
+-- "No other zero stands in a string", and lengths are not below 0
 abbrev pub allowedValue : Value → Bool
 allowedValue (int n) = true
 allowedValue (vocab n) = true
@@ -75,6 +76,7 @@ allowedValue (float low high) = true
 allowedValue (str bs) = natural (length bs) && not (hasZero bs)
 allowedValue (blob bs) = natural (length bs)
 
+-- the same of all elements, and counts are not below 0
 abbrev pub allowed : Elements → Bool
 allowed none = true
 allowed (value v es) = allowedValue v && allowed es

@@ -25,6 +25,7 @@ pub fn row_at(rows: &[u32], at: usize) -> Row
     }
 }
 
+// A 32-bit number as an index.
 pub fn wide(x: u32) -> usize
     ensures { λ r. ⌜ (r ≡ x) × (r < 2 ^ 32) ⌝ }
 {

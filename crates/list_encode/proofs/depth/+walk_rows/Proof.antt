@@ -1,4 +1,5 @@
--- `list_encode::depth::walk_rows` meets its contract. The invariant: the answer for the list is that for `left` elements from `i` on. The depth left falls at every call.
+-- `list_encode::depth::walk_rows` meets its contract. The depth left falls at every call.
+-- The invariant: the answer for the list is that for `left` elements from `i` on.
 use Prim.Native.Nat.{ℕ, _-_, _≤_, _<_}
 use mathlib.Core.Path.{_≡_, sym, _∙_}
 use mathlib.Core.Logic.{⊎-elim}
@@ -31,7 +32,8 @@ abbrev calls : ℕ → walk-rows-lts.Claims
 calls t = (row-at-reads.Asked, row-at-reads.Learnt, wide-reads.Asked, wide-reads.Learnt, walk-rows-below t, walk-rows.Post)
 
 abbrev walk-rows-Inv-loop : walk-rows-lts.InvT-loop
-walk-rows-Inv-loop rows n at depth left₀ i₀ left i = (walk depth rows n at ≡ walkIn (walk (depth - 1) rows) rows left i) × (i ≤ length rows)
+walk-rows-Inv-loop rows n at depth left₀ i₀ left i =
+    (walk depth rows n at ≡ walkIn (walk (depth - 1) rows) rows left i) × (i ≤ length rows)
 
 abbrev walk-rows-μ-loop : walk-rows-lts.MeasureT-loop
 walk-rows-μ-loop rows n at depth left₀ i₀ left i = left
@@ -46,7 +48,10 @@ walk-rows-sub-if2 : (t : ℕ) → walk-rows-lts.Need-sub-if2 (calls t) (walk-row
 walk-rows-sub-if2 t c = search needs
 
 walk-rows-returns-2 : (t : ℕ) → walk-rows-lts.Need-returns-2 (calls t) (walk-rows-at t) walk-rows.Post walk-rows-Inv-loop walk-rows-μ-loop
-walk-rows-returns-2 t c = (walk-short _ _ (c .before .before .before .before .before .args .rows .now) (c .before .before .loop .left) (c .before .before .loop .i) (c .before .before .loop .inv .0) (c .before .loop-test .taken) (c .if2 .taken), search needs)
+walk-rows-returns-2 t c =
+    let x = c .before .before .loop in
+    let rows = c .before .before .before .before .before .args .rows .now in
+    (walk-short _ _ rows (x .left) (x .i) (x .inv .0) (c .before .loop-test .taken) (c .if2 .taken), search needs)
 
 walk-rows-row-at-requires : (t : ℕ) → walk-rows-lts.Need-row-at-requires (calls t) (walk-rows-at t) walk-rows.Post walk-rows-Inv-loop walk-rows-μ-loop
 walk-rows-row-at-requires t c κs = search needs
@@ -67,7 +72,13 @@ walk-rows-enum-told : (t : ℕ) → walk-rows-lts.Need-enum-told (calls t) (walk
 walk-rows-enum-told t c = search needs
 
 walk-rows-returns-3 : (t : ℕ) → walk-rows-lts.Need-returns-3 (calls t) (walk-rows-at t) walk-rows.Post walk-rows-Inv-loop walk-rows-μ-loop
-walk-rows-returns-3 t c = (walk-deeper _ _ (c .before .before .before .before .before .before .before .before .before .before .before .before .args .rows .now) (c .before .before .before .before .before .before .before .before .before .loop .left) (c .before .before .before .before .before .before .before .before .before .loop .i) (c .before .before .before .before .before .before .before .before .before .loop .inv .0) (c .before .before .before .before .before .before .before .before .loop-test .taken) (c .before .before .before .before .before .before .before .if2 .left) _ (c .before .before .before .before .before .before .row-at .ensures) (c .before .before .before .before .if3 .taken) _ (c .before .before .before .wide .ensures .0) _ (c .before .before .walk-rows .ensures .0) (c .enum-told .given .1), tt)
+walk-rows-returns-3 t c =
+    let x = c .before .before .before .before .before .before .before .before .before .loop in
+    let rows = c .before .before .before .before .before .before .before .before .before .before .before .before .args .rows .now in (
+      walk-deeper _ _ rows (x .left) (x .i) (x .inv .0) (c .before .before .before .before .before .before .before .before .loop-test .taken) (c .before .before .before .before .before .before .before .if2 .left) _ (c .before .before .before .before .before .before .row-at .ensures) (c .before .before .before .before .if3 .taken)
+          _ (c .before .before .before .wide .ensures .0) _ (c .before .before .walk-rows .ensures .0) (c .enum-told .given .1),
+      tt,
+    )
 
 walk-rows-enum-known-inner : (t : ℕ) → walk-rows-lts.Need-enum-known-inner (calls t) (walk-rows-at t) walk-rows.Post walk-rows-Inv-loop walk-rows-μ-loop
 walk-rows-enum-known-inner t c = search needs
@@ -83,12 +94,20 @@ walk-rows-loop-less t c = search needs
 
 walk-rows-loop-again : (t : ℕ) → walk-rows-lts.Need-loop-again (calls t) (walk-rows-at t) walk-rows.Post walk-rows-Inv-loop walk-rows-μ-loop
 walk-rows-loop-again t c =
+    let x = c .before .before .before .before .before .loop in
+    let rows = c .before .before .before .before .before .before .before .before .args .rows .now in
     ⊎-elim
     (λ w. (
-      rw (w .6) (walk-past _ _ (c .before .before .before .before .before .before .before .before .args .rows .now) (c .before .before .before .before .before .loop .left) (c .before .before .before .before .before .loop .i) (c .before .before .before .before .before .loop .inv .0) (c .before .before .before .before .loop-test .taken) (c .before .before .before .if2 .left) _ (c .before .before .row-at .ensures) (w .0 .taken) _ (w .1 .ensures .0) _ (w .2 .ensures .0) _ (w .4 .given .1)),
+      rw (w .6)
+          (walk-past _ _ rows (x .left) (x .i) (x .inv .0) (c .before .before .before .before .loop-test .taken) (c .before .before .before .if2 .left) _ (c .before .before .row-at .ensures) (w .0 .taken)
+          _ (w .1 .ensures .0) _ (w .2 .ensures .0) _ (w .4 .given .1)),
       rw (w .6) (past-inside _ _ _ (w .4 .given .1) (w .2 .ensures .1)),
     ))
-    (λ w. (rw (w .1) (walk-value _ _ (c .before .before .before .before .before .before .before .before .args .rows .now) (c .before .before .before .before .before .loop .left) (c .before .before .before .before .before .loop .i) (c .before .before .before .before .before .loop .inv .0) (c .before .before .before .before .loop-test .taken) (c .before .before .before .if2 .left) _ (c .before .before .row-at .ensures) (w .0 .left)), omega (arith, w .1)))
+    (λ w. (
+      rw (w .1)
+          (walk-value _ _ rows (x .left) (x .i) (x .inv .0) (c .before .before .before .before .loop-test .taken) (c .before .before .before .if2 .left) _ (c .before .before .row-at .ensures) (w .0 .left)),
+      omega (arith, w .1),
+    ))
     (c .if3 .came)
 
 walk-rows-returns-4 : (t : ℕ) → walk-rows-lts.Need-returns-4 (calls t) (walk-rows-at t) walk-rows.Post walk-rows-Inv-loop walk-rows-μ-loop

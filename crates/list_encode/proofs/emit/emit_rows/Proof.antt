@@ -1,4 +1,5 @@
--- `list_encode::emit::emit_rows` meets its contract. The invariant: the buffer at the end is what the rows from `at` on make of it, and there is room and store for them.
+-- `list_encode::emit::emit_rows` meets its contract.
+-- The invariant: the buffer at the end is what the rows from `at` on make of it, and there is room and store for them.
 use Prim.Native.Nat.{ℕ, _+_, _-_, _≤_}
 use mathlib.Core.Path.{_≡_, refl, ap, _∙_}
 use native.Mathlib.Omega.{arith}
@@ -7,12 +8,17 @@ use lib.Seq.{sets}
 use borrow.Author.Needs.{needs}
 use Rattle.list.specs.Limits.{listLimit}
 use Rattle.list_encode.specs.Emit.{codeAhead, leftAfter, emit, sizeFrom, storedFrom}
-use Rattle.list_encode.proofs.Emits.{size-turn, stored-turn, row-size, emit-done, emit-turn}
+use Rattle.list_encode.proofs.Emits.{size-turn, stored-turn, emit-done, emit-turn}
 use Rattle.list_encode.proofs.emit.emit_rows.Statement.{statement}
 use Rattle.list_encode.proofs.emit.emit_rows.Tie as tie
 
 abbrev Inv-loop : tie.InvT-loop
-Inv-loop rows store buffer₀ at₀ left₀ used₀ end₀ buffer at left used end = (sets buffer₀ 0 (emit store rows 0 0) ≡ sets buffer end (emit store (drop at rows) left used)) × (end + sizeFrom (drop at rows) left ≤ listLimit) × (at ≤ length rows) × (used + storedFrom (drop at rows) ≤ length store) × (length buffer ≡ length buffer₀)
+Inv-loop rows store buffer₀ at₀ left₀ used₀ end₀ buffer at left used end =
+    (sets buffer₀ 0 (emit store rows 0 0) ≡ sets buffer end (emit store (drop at rows) left used))
+    × (end + sizeFrom (drop at rows) left ≤ listLimit)
+    × (at ≤ length rows)
+    × (used + storedFrom (drop at rows) ≤ length store)
+    × (length buffer ≡ length buffer₀)
 
 abbrev μ-loop : tie.MeasureT-loop
 μ-loop rows store buffer₀ at₀ left₀ used₀ end₀ buffer at left used end = length rows - at
@@ -33,11 +39,15 @@ code-ahead-requires : tie.Need-code-ahead-requires Inv-loop μ-loop
 code-ahead-requires c κs = search needs
 
 put-row-requires : tie.Need-put-row-requires Inv-loop μ-loop
-put-row-requires c κs = (
-  omega (arith, size-turn (c .before .before .before .before .before .before .before .before .args .rows .now) (c .before .before .before .before .loop .at) (omega (arith, c .before .before .before .loop-test .taken, c .before .before .before .before .loop .inv .2)) (c .before .before .row-at .result) (c .before .before .row-at .ensures) (c .before .before .before .before .loop .left), c .before .before .before .before .loop .inv .1),
-  omega (arith, c .before .before .before .before .loop .inv .4, c .before .before .before .before .before .before .before .before .pre .2),
-  omega (arith, stored-turn (c .before .before .before .before .before .before .before .before .args .rows .now) (c .before .before .before .before .loop .at) (omega (arith, c .before .before .before .loop-test .taken, c .before .before .before .before .loop .inv .2)) (c .before .before .row-at .result) (c .before .before .row-at .ensures), c .before .before .before .before .loop .inv .3),
-)
+put-row-requires c κs =
+    let x = c .before .before .before .before .loop in
+    let rows = c .before .before .before .before .before .before .before .before .args .rows .now in
+    let r = c .before .before .row-at .result in
+    let fits : x .at + 3 ≤ length rows = omega (arith, c .before .before .before .loop-test .taken, x .inv .2) in (
+      omega (arith, x .inv .1, size-turn rows (x .at) fits r (c .before .before .row-at .ensures) (x .left)),
+      omega (arith, x .inv .4, c .before .before .before .before .before .before .before .before .pre .2),
+      omega (arith, x .inv .3, stored-turn rows (x .at) fits r (c .before .before .row-at .ensures)),
+    )
 
 row-size-requires : tie.Need-row-size-requires Inv-loop μ-loop
 row-size-requires c κs = search needs
@@ -52,7 +62,12 @@ stored-by-requires : tie.Need-stored-by-requires Inv-loop μ-loop
 stored-by-requires c κs = search needs
 
 add-used : tie.Need-add-used Inv-loop μ-loop
-add-used c = omega (arith, c .before .before .before .before .before .before .before .before .before .before .loop .inv .3, c .stored-by .ensures .0, stored-turn (c .before .before .before .before .before .before .before .before .before .before .before .before .before .before .args .rows .now) (c .before .before .before .before .before .before .before .before .before .before .loop .at) (omega (arith, c .before .before .before .before .before .before .before .before .before .loop-test .taken, c .before .before .before .before .before .before .before .before .before .before .loop .inv .2)) (c .before .before .before .before .before .before .before .before .row-at .result) (c .before .before .before .before .before .before .before .before .row-at .ensures))
+add-used c =
+    let x = c .before .before .before .before .before .before .before .before .before .before .loop in
+    let rows = c .before .before .before .before .before .before .before .before .before .before .before .before .before .before .args .rows .now in
+    let r = c .before .before .before .before .before .before .before .before .row-at .result in
+    let fits : x .at + 3 ≤ length rows = omega (arith, c .before .before .before .before .before .before .before .before .before .loop-test .taken, x .inv .2) in
+    omega (arith, x .inv .3, c .stored-by .ensures .0, stored-turn rows (x .at) fits r (c .before .before .before .before .before .before .before .before .row-at .ensures))
 
 loop-less : tie.Need-loop-less Inv-loop μ-loop
 loop-less c = search needs
@@ -63,12 +78,14 @@ loop-again c =
     let rows = c .before .before .before .before .before .before .before .before .before .before .before .before .before .before .args .rows .now in
     let r = c .before .before .before .before .before .before .before .before .row-at .result in
     let fits : x .at + 3 ≤ length rows = omega (arith, c .before .before .before .before .before .before .before .before .before .loop-test .taken, x .inv .2) in
-    let t = stored-turn (c .before .before .before .before .before .before .before .before .before .before .before .before .before .before .args .rows .now) (c .before .before .before .before .before .before .before .before .before .before .loop .at) (omega (arith, c .before .before .before .before .before .before .before .before .before .loop-test .taken, c .before .before .before .before .before .before .before .before .before .before .loop .inv .2)) (c .before .before .before .before .before .before .before .before .row-at .result) (c .before .before .before .before .before .before .before .before .row-at .ensures) in
+    let s = size-turn rows (x .at) fits r (c .before .before .before .before .before .before .before .before .row-at .ensures) (x .left) in
+    let t = stored-turn rows (x .at) fits r (c .before .before .before .before .before .before .before .before .row-at .ensures) in
     let l : c .before .left-after .result ≡ leftAfter (x .left) (codeAhead (drop (x .at + 3) rows) r) r =
     c .before .left-after .ensures ∙ ap (λ (z : ℕ). leftAfter (x .left) z r) (c .before .before .before .before .before .before .before .code-ahead .ensures) in (
-      emit-turn _ (c .before .before .before .before .before .before .before .before .before .before .before .before .before .before .args .store .now) rows (x .buffer) (x .at) (x .left) (x .used) (x .end) (x .inv .0) _ r _ _ _ _ fits (c .before .before .before .before .before .before .before .before .row-at .ensures)
-          (omega (arith, t, x .inv .3)) (c .before .before .before .before .before .before .before .code-ahead .ensures) (c .before .before .before .before .before .put-row .ensures) (c .before .before .row-size .ensures .0) (c .before .left-after .ensures) (c .stored-by .ensures .0),
-      rw l (omega (arith, x .inv .1, c .before .before .row-size .ensures .0, size-turn (c .before .before .before .before .before .before .before .before .before .before .before .before .before .before .args .rows .now) (c .before .before .before .before .before .before .before .before .before .before .loop .at) (omega (arith, c .before .before .before .before .before .before .before .before .before .loop-test .taken, c .before .before .before .before .before .before .before .before .before .before .loop .inv .2)) (c .before .before .before .before .before .before .before .before .row-at .result) (c .before .before .before .before .before .before .before .before .row-at .ensures) (x .left))),
+      emit-turn _ (c .before .before .before .before .before .before .before .before .before .before .before .before .before .before .args .store .now) rows (x .buffer) (x .at) (x .left) (x .used) (x .end) (x .inv .0)
+          _ r _ _ _ _ fits (c .before .before .before .before .before .before .before .before .row-at .ensures) (omega (arith, t, x .inv .3)) (c .before .before .before .before .before .before .before .code-ahead .ensures)
+          (c .before .before .before .before .before .put-row .ensures) (c .before .before .row-size .ensures .0) (c .before .left-after .ensures) (c .stored-by .ensures .0),
+      rw l (omega (arith, x .inv .1, c .before .before .row-size .ensures .0, s)),
       fits,
       omega (arith, t, x .inv .3, c .stored-by .ensures .0),
       search needs,
@@ -78,7 +95,10 @@ same-length : tie.Need-same-length Inv-loop μ-loop
 same-length c = search needs
 
 returns : tie.Need-returns Inv-loop μ-loop
-returns c = emit-done _ (c .before .before .before .before .before .args .store .now) (c .before .before .before .before .before .args .rows .now) (c .before .loop .buffer) (c .before .loop .at) (c .before .loop .left) (c .before .loop .used) (c .before .loop .end) (c .before .loop .inv .0) (c .loop-test .left)
+returns c =
+    let a = c .before .before .before .before .before .args in
+    let x = c .before .loop in
+    emit-done _ (a .store .now) (a .rows .now) (x .buffer) (x .at) (x .left) (x .used) (x .end) (x .inv .0) (c .loop-test .left)
 
 pub emit-rows-spec : {M : Type 1} → statement M
 emit-rows-spec =

@@ -23,7 +23,8 @@ same-length c = search needs
 returns : tie.Need-returns
 returns c =
     let a = c .before .before .before .before .before .before .before .before .before .before .args in
-    put-chain (a .buffer .now) _ _ (a .at) _ (number (a .code)) (foundBytes (a .store .now) (a .used) (a .row .second) (a .row .third) (kindOf (a .row .code)))
+    put-chain (a .buffer .now) _ _ (a .at) _ (number (a .code))
+    (foundBytes (a .store .now) (a .used) (a .row .second) (a .row .third) (kindOf (a .row .code)))
     (c .before .before .before .before .before .before .put-number .ensures) (c .before .before .put-value .ensures) (omega arith)
 
 pub put-coded-spec : {M : Type 1} → statement M

@@ -13,7 +13,9 @@ same-length : tie.Need-same-length
 same-length c = search needs
 
 returns : tie.Need-returns
-returns c = let a = c .before .before .before .before .before .args in c .before .before .put-u32 .ensures ∙ put-fits (a .buffer .now) (a .at) (number (a .x)) (c .before .before .before .before .before .pre)
+returns c =
+    let a = c .before .before .before .before .before .args in
+    c .before .before .put-u32 .ensures ∙ put-fits (a .buffer .now) (a .at) (number (a .x)) (c .before .before .before .before .before .pre)
 
 pub put-number-spec : {M : Type 1} → statement M
 put-number-spec = tie.close (tie.spec put-u32-requires same-length returns)

@@ -32,7 +32,8 @@ returns c =
     let a = c .before .before .before .before .before .before .before .args in
     let e : a .used + a .size - a .used ≡ a .size = omega arith in
     c .before .before .copy-at .ensures
-    ∙ rw e (put-fits (a .buffer .now) (a .at) (part (a .store .now) (a .used) (a .size)) (omega (arith, c .before .before .before .before .before .before .before .pre .0, part-length (a .store .now) (a .used) (a .size) (c .before .before .before .before .before .before .before .pre .1))))
+    ∙ rw e (put-fits (a .buffer .now) (a .at) (part (a .store .now) (a .used) (a .size))
+    (omega (arith, c .before .before .before .before .before .before .before .pre .0, part-length (a .store .now) (a .used) (a .size) (c .before .before .before .before .before .before .before .pre .1))))
 
 pub put-part-spec : {M : Type 1} → statement M
 put-part-spec =

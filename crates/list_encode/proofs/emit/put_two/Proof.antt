@@ -19,7 +19,10 @@ same-length : tie.Need-same-length
 same-length c = search needs
 
 returns : tie.Need-returns
-returns c = let a = c .before .before .before .before .before .before .before .before .before .args in put-chain (a .buffer .now) _ _ (a .at) _ (number (a .x)) (number (a .y)) (c .before .before .before .before .before .before .put-number .ensures) (c .before .before .put-number2 .ensures) (omega arith)
+returns c =
+    let a = c .before .before .before .before .before .before .before .before .before .args in
+    put-chain (a .buffer .now) _ _ (a .at) _ (number (a .x)) (number (a .y))
+    (c .before .before .before .before .before .before .put-number .ensures) (c .before .before .put-number2 .ensures) (omega arith)
 
 pub put-two-spec : {M : Type 1} → statement M
 put-two-spec =

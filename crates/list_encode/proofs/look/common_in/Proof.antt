@@ -1,4 +1,5 @@
--- `list_encode::look::common_in` meets its contract. The invariant: what all elements have in common is what `seen` and the elements from `i` on have.
+-- `list_encode::look::common_in` meets its contract.
+-- The invariant: what all elements have in common is what `seen` and the elements from `i` on have.
 use Prim.Native.Nat.{_≤_}
 use mathlib.Core.Path.{_≡_, refl, sym, _∙_}
 use lib.ListN.{length, drop}
@@ -10,7 +11,8 @@ use Rattle.list_encode.proofs.look.common_in.Statement.{statement}
 use Rattle.list_encode.proofs.look.common_in.Tie as tie
 
 abbrev Inv-loop : tie.InvT-loop
-Inv-loop rows at n seen₀ left₀ i₀ seen left i = (commonIn 0 n (drop at rows) ≡ commonIn seen left (drop i rows)) × (i ≤ length rows)
+Inv-loop rows at n seen₀ left₀ i₀ seen left i =
+    (commonIn 0 n (drop at rows) ≡ commonIn seen left (drop i rows)) × (i ≤ length rows)
 
 abbrev μ-loop : tie.MeasureT-loop
 μ-loop rows at n seen₀ left₀ i₀ seen left i = left
@@ -22,7 +24,9 @@ sub-if1 : tie.Need-sub-if1 Inv-loop μ-loop
 sub-if1 c = search needs
 
 returns : tie.Need-returns Inv-loop μ-loop
-returns c = common-short _ (c .before .before .before .before .args .rows .now) (c .before .before .loop .i) (c .before .before .loop .left) (c .before .before .loop .seen) (c .before .before .loop .inv .0) (c .if1 .taken)
+returns c =
+    let x = c .before .before .loop in
+    common-short _ (c .before .before .before .before .args .rows .now) (x .i) (x .left) (x .seen) (x .inv .0) (c .if1 .taken)
 
 mul-common-code : tie.Need-mul-common-code Inv-loop μ-loop
 mul-common-code c = search needs
@@ -44,8 +48,11 @@ loop-less c = search needs
 
 loop-again : tie.Need-loop-again Inv-loop μ-loop
 loop-again c =
-    let x = c .before .before .before .before .loop in
-    (common-turn _ (c .before .before .before .before .before .before .args .rows .now) (x .i) (x .left) (x .seen) (x .inv .0) _ (c .before .before .before .loop-test .taken) (x .inv .1) (c .before .before .if1 .left) (c .common-code .ensures), search needs)
+    let x = c .before .before .before .before .loop in (
+      common-turn _ (c .before .before .before .before .before .before .args .rows .now) (x .i) (x .left) (x .seen) (x .inv .0)
+          _ (c .before .before .before .loop-test .taken) (x .inv .1) (c .before .before .if1 .left) (c .common-code .ensures),
+      search needs,
+    )
 
 returns-2 : tie.Need-returns-2 Inv-loop μ-loop
 returns-2 c = sym (c .before .loop .inv .0 ∙ common-none _ _ _ (c .loop-test .left))

@@ -14,7 +14,8 @@ wide-requires c κs = search needs
 
 returns-2 : tie.Need-returns-2
 unfolding leftAfter
-returns-2 c = rw (eq-eqb _ _ (c .before .before .if1 .taken), ne-eqb _ _ (c .before .if2 .left)) (c .wide .ensures .0)
+returns-2 c =
+    rw (eq-eqb _ _ (c .before .before .if1 .taken), ne-eqb _ _ (c .before .if2 .left)) (c .wide .ensures .0)
 
 returns-3 : tie.Need-returns-3
 unfolding leftAfter

@@ -19,7 +19,11 @@ enum-told c = search needs
 
 returns : tie.Need-returns
 unfolding stored
-returns c = (c .kind-stored .ensures .0 ∙ ap (foundStored (c .before .before .before .before .before .args .row .third)) (sym (c .before .before .found .given .1) ∙ c .before .before .before .before .of-code .ensures), c .kind-stored .ensures .1)
+returns c = (
+  c .kind-stored .ensures .0
+      ∙ ap (foundStored (c .before .before .before .before .before .args .row .third)) (sym (c .before .before .found .given .1) ∙ c .before .before .before .before .of-code .ensures),
+  c .kind-stored .ensures .1,
+)
 
 returns-2 : tie.Need-returns-2
 unfolding stored

@@ -1,4 +1,5 @@
--- `list_encode::shape::is_element` meets its contract. The invariant: the answer for all rows is that for the rows from `at` on; `used` and `at` stay inside.
+-- `list_encode::shape::is_element` meets its contract.
+-- The invariant: the answer for all rows is that for the rows from `at` on, and `used` and `at` stay inside.
 use Prim.Native.Nat.{_+_, _-_, _≤_}
 use mathlib.Core.Path.{_≡_, refl, sym, _∙_}
 use native.Mathlib.Omega.{arith}
@@ -10,7 +11,8 @@ use Rattle.list_encode.proofs.shape.is_element.Statement.{statement}
 use Rattle.list_encode.proofs.shape.is_element.Tie as tie
 
 abbrev Inv-loop : tie.InvT-loop
-Inv-loop rows store at₀ want₀ used₀ at want used = (shape store rows 1 0 ≡ shape store (drop at rows) want used) × (used ≤ length store) × (at ≤ length rows)
+Inv-loop rows store at₀ want₀ used₀ at want used =
+    (shape store rows 1 0 ≡ shape store (drop at rows) want used) × (used ≤ length store) × (at ≤ length rows)
 
 abbrev μ-loop : tie.MeasureT-loop
 μ-loop rows store at₀ want₀ used₀ at want used = length rows - at
@@ -19,13 +21,19 @@ loop-holds : tie.Need-loop-holds Inv-loop μ-loop
 loop-holds c = (refl, search needs, search needs)
 
 returns : tie.Need-returns Inv-loop μ-loop
-returns c = turn-over _ (c .before .before .before .before .before .args .store .now) (c .before .before .before .before .before .args .rows .now) (c .before .before .loop .at) (c .before .before .loop .want) (c .before .before .loop .used) (c .before .before .loop .inv .0) (c .before .loop-test .taken) (c .if1 .taken)
+returns c =
+    let a = c .before .before .before .before .before .args in
+    let x = c .before .before .loop in
+    turn-over _ (a .store .now) (a .rows .now) (x .at) (x .want) (x .used) (x .inv .0) (c .before .loop-test .taken) (c .if1 .taken)
 
 sub-if2 : tie.Need-sub-if2 Inv-loop μ-loop
 sub-if2 c = search needs
 
 returns-2 : tie.Need-returns-2 Inv-loop μ-loop
-returns-2 c = turn-few _ (c .before .before .before .before .before .before .args .store .now) (c .before .before .before .before .before .before .args .rows .now) (c .before .before .before .loop .at) (c .before .before .before .loop .want) (c .before .before .before .loop .used) (c .before .before .before .loop .inv .0) (c .if2 .taken)
+returns-2 c =
+    let a = c .before .before .before .before .before .before .args in
+    let x = c .before .before .before .loop in
+    turn-few _ (a .store .now) (a .rows .now) (x .at) (x .want) (x .used) (x .inv .0) (c .if2 .taken)
 
 row-at-requires : tie.Need-row-at-requires Inv-loop μ-loop
 row-at-requires c κs = omega (arith, c .if2 .left, c .before .if1 .left, c .before .before .before .loop .inv .2)
@@ -46,7 +54,10 @@ stored-by-requires : tie.Need-stored-by-requires Inv-loop μ-loop
 stored-by-requires c κs = search needs
 
 add-used : tie.Need-add-used Inv-loop μ-loop
-add-used c = omega (arith, c .stored-by .ensures .0, fits-inside (c .before .before .before .before .before .before .before .before .before .before .before .args .store .now) (c .before .before .before .before .before .before .before .before .loop .used) (c .before .before .before .before .row-at .result) (c .before .before .before .before .before .before .before .before .loop .inv .1) (sym (c .before .before .before .row-fits .ensures) ∙ c .before .before .if3 .taken))
+add-used c =
+    let a = c .before .before .before .before .before .before .before .before .before .before .before .args in
+    let x = c .before .before .before .before .before .before .before .before .loop in
+    omega (arith, c .stored-by .ensures .0, fits-inside (a .store .now) (x .used) (c .before .before .before .before .row-at .result) (x .inv .1) (sym (c .before .before .before .row-fits .ensures) ∙ c .before .before .if3 .taken))
 
 add-at : tie.Need-add-at Inv-loop μ-loop
 add-at c = omega (arith, c .before .before .before .before .before .if2 .left, c .before .before .before .before .before .before .if1 .left, c .before .before .before .before .before .before .before .before .loop .inv .2)
@@ -56,18 +67,30 @@ loop-less c = omega (arith, c .before .before .before .before .before .if2 .left
 
 loop-again : tie.Need-loop-again Inv-loop μ-loop
 loop-again c =
-    let fits : c .before .before .before .before .before .before .before .before .loop .at + 3 ≤ length (c .before .before .before .before .before .before .before .before .before .before .before .args .rows .now) = omega (arith, c .before .before .before .before .before .if2 .left, c .before .before .before .before .before .before .if1 .left, c .before .before .before .before .before .before .before .before .loop .inv .2) in (
-      turn-goes _ (c .before .before .before .before .before .before .before .before .before .before .before .args .store .now) (c .before .before .before .before .before .before .before .before .before .before .before .args .rows .now) (c .before .before .before .before .before .before .before .before .loop .at) (c .before .before .before .before .before .before .before .before .loop .want) (c .before .before .before .before .before .before .before .before .loop .used) (c .before .before .before .before .before .before .before .before .loop .inv .0) (omega (arith, c .before .before .before .before .before .before .if1 .left)) fits _ (c .before .before .before .before .row-at .ensures) _ (c .before .before .before .row-fits .ensures)
+    let a = c .before .before .before .before .before .before .before .before .before .before .before .args in
+    let x = c .before .before .before .before .before .before .before .before .loop in
+    let fits : x .at + 3 ≤ length (a .rows .now) = omega (arith, c .before .before .before .before .before .if2 .left, c .before .before .before .before .before .before .if1 .left, x .inv .2) in
+    let inside = fits-inside (a .store .now) (x .used) (c .before .before .before .before .row-at .result) (x .inv .1) (sym (c .before .before .before .row-fits .ensures) ∙ c .before .before .if3 .taken) in (
+      turn-goes _ (a .store .now) (a .rows .now) (x .at) (x .want) (x .used) (x .inv .0) (omega (arith, c .before .before .before .before .before .before .if1 .left)) fits
+          _ (c .before .before .before .before .row-at .ensures) _ (c .before .before .before .row-fits .ensures)
           _ _ (c .before .before .if3 .taken) (c .before .gained-by .ensures .0) (c .stored-by .ensures .0),
-      rw (c .stored-by .ensures .0) (fits-inside (c .before .before .before .before .before .before .before .before .before .before .before .args .store .now) (c .before .before .before .before .before .before .before .before .loop .used) (c .before .before .before .before .row-at .result) (c .before .before .before .before .before .before .before .before .loop .inv .1) (sym (c .before .before .before .row-fits .ensures) ∙ c .before .before .if3 .taken)),
+      rw (c .stored-by .ensures .0) inside,
       fits,
     )
 
 returns-3 : tie.Need-returns-3 Inv-loop μ-loop
-returns-3 c = turn-stop _ (c .before .before .before .before .before .before .before .before .before .args .store .now) (c .before .before .before .before .before .before .before .before .before .args .rows .now) (c .before .before .before .before .before .before .loop .at) (c .before .before .before .before .before .before .loop .want) (c .before .before .before .before .before .before .loop .used) (c .before .before .before .before .before .before .loop .inv .0) (omega (arith, c .before .before .before .before .if1 .left)) (omega (arith, c .before .before .before .if2 .left, c .before .before .before .before .if1 .left, c .before .before .before .before .before .before .loop .inv .2)) _ (c .before .before .row-at .ensures) _ (c .before .row-fits .ensures) (c .if3 .left)
+returns-3 c =
+    let a = c .before .before .before .before .before .before .before .before .before .args in
+    let x = c .before .before .before .before .before .before .loop in
+    turn-stop _ (a .store .now) (a .rows .now) (x .at) (x .want) (x .used) (x .inv .0)
+    (omega (arith, c .before .before .before .before .if1 .left)) (omega (arith, c .before .before .before .if2 .left, c .before .before .before .before .if1 .left, x .inv .2))
+    _ (c .before .before .row-at .ensures) _ (c .before .row-fits .ensures) (c .if3 .left)
 
 returns-4 : tie.Need-returns-4 Inv-loop μ-loop
-returns-4 c = turn-end _ (c .before .before .before .before .args .store .now) (c .before .before .before .before .args .rows .now) (c .before .loop .at) (c .before .loop .want) (c .before .loop .used) (c .before .loop .inv .0) (c .loop-test .left)
+returns-4 c =
+    let a = c .before .before .before .before .args in
+    let x = c .before .loop in
+    turn-end _ (a .store .now) (a .rows .now) (x .at) (x .want) (x .used) (x .inv .0) (c .loop-test .left)
 
 pub is-element-spec : {M : Type 1} → statement M
 is-element-spec =

@@ -15,16 +15,40 @@ wide-requires : tie.Need-wide-requires
 wide-requires c κs = search needs
 
 add-has-zero : tie.Need-add-has-zero
-add-has-zero c = let a = c .before .before .before .before .args in omega (arith, c .wide .ensures .0, placed-inside (a .store .now) (a .used) (a .offset) (a .size) (c .before .before .before .before .pre) (sym (c .before .before .is-placed .ensures) ∙ c .before .if1 .taken))
+add-has-zero c =
+    let a = c .before .before .before .before .args in
+    omega (
+      arith,
+      c .wide .ensures .0,
+      placed-inside (a .store .now) (a .used) (a .offset) (a .size) (c .before .before .before .before .pre) (sym (c .before .before .is-placed .ensures) ∙ c .before .if1 .taken),
+    )
 
 sub-has-zero : tie.Need-sub-has-zero
-sub-has-zero c = let a = c .before .before .before .before .args in omega (arith, c .wide .ensures .0, placed-inside (a .store .now) (a .used) (a .offset) (a .size) (c .before .before .before .before .pre) (sym (c .before .before .is-placed .ensures) ∙ c .before .if1 .taken))
+sub-has-zero c =
+    let a = c .before .before .before .before .args in
+    omega (
+      arith,
+      c .wide .ensures .0,
+      placed-inside (a .store .now) (a .used) (a .offset) (a .size) (c .before .before .before .before .pre) (sym (c .before .before .is-placed .ensures) ∙ c .before .if1 .taken),
+    )
 
 part-has-zero-start : tie.Need-part-has-zero-start
-part-has-zero-start c = let a = c .before .before .before .before .args in omega (arith, c .wide .ensures .0, placed-inside (a .store .now) (a .used) (a .offset) (a .size) (c .before .before .before .before .pre) (sym (c .before .before .is-placed .ensures) ∙ c .before .if1 .taken))
+part-has-zero-start c =
+    let a = c .before .before .before .before .args in
+    omega (
+      arith,
+      c .wide .ensures .0,
+      placed-inside (a .store .now) (a .used) (a .offset) (a .size) (c .before .before .before .before .pre) (sym (c .before .before .is-placed .ensures) ∙ c .before .if1 .taken),
+    )
 
 part-has-zero-end : tie.Need-part-has-zero-end
-part-has-zero-end c = let a = c .before .before .before .before .args in omega (arith, c .wide .ensures .0, placed-inside (a .store .now) (a .used) (a .offset) (a .size) (c .before .before .before .before .pre) (sym (c .before .before .is-placed .ensures) ∙ c .before .if1 .taken))
+part-has-zero-end c =
+    let a = c .before .before .before .before .args in
+    omega (
+      arith,
+      c .wide .ensures .0,
+      placed-inside (a .store .now) (a .used) (a .offset) (a .size) (c .before .before .before .before .pre) (sym (c .before .before .is-placed .ensures) ∙ c .before .if1 .taken),
+    )
 
 has-zero-requires : tie.Need-has-zero-requires
 has-zero-requires c κs = search needs

@@ -27,13 +27,17 @@ unfolding rowFits
 returns-2 c =
     let a = c .before .before .before .before .before .before .before .before .args in
     c .kind-fits .ensures
-    ∙ rw (ne-eqb _ _ (c .before .before .before .before .before .if1 .left)) (ap (foundFits (a .store .now) (a .used) (a .row .second) (a .row .third)) (sym (c .before .before .found .given .1) ∙ c .before .before .before .before .of-code .ensures))
+    ∙ rw (ne-eqb _ _ (c .before .before .before .before .before .if1 .left))
+    (ap (foundFits (a .store .now) (a .used) (a .row .second) (a .row .third))
+    (sym (c .before .before .found .given .1) ∙ c .before .before .before .before .of-code .ensures))
 
 returns-3 : tie.Need-returns-3
 unfolding rowFits
 returns-3 c =
     let a = c .before .before .before .before .before .before .args in
-    rw (ne-eqb _ _ (c .before .before .before .if1 .left)) (ap (foundFits (a .store .now) (a .used) (a .row .second) (a .row .third)) (sym (c .enum-told .given .1) ∙ c .before .before .of-code .ensures))
+    rw (ne-eqb _ _ (c .before .before .before .if1 .left))
+    (ap (foundFits (a .store .now) (a .used) (a .row .second) (a .row .third))
+    (sym (c .enum-told .given .1) ∙ c .before .before .of-code .ensures))
 
 pub row-fits-spec : {M : Type 1} → statement M
 row-fits-spec =

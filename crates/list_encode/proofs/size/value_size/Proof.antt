@@ -18,7 +18,11 @@ enum-told : tie.Need-enum-told
 enum-told c = search needs
 
 returns : tie.Need-returns
-returns c = (c .kind-size .ensures .0 ∙ ap (foundSize (c .before .before .before .before .before .args .row .third)) (sym (c .before .before .found .given .1) ∙ c .before .before .before .before .of-code .ensures), c .kind-size .ensures .1)
+returns c = (
+  c .kind-size .ensures .0
+      ∙ ap (foundSize (c .before .before .before .before .before .args .row .third)) (sym (c .before .before .found .given .1) ∙ c .before .before .before .before .of-code .ensures),
+  c .kind-size .ensures .1,
+)
 
 returns-2 : tie.Need-returns-2
 returns-2 c = (ap (foundSize (c .before .before .before .args .row .third)) (sym (c .enum-told .given .1) ∙ c .before .before .of-code .ensures), search needs)
