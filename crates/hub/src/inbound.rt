@@ -1,0 +1,89 @@
+// A packet is received with the socket that it came from.
+use crate::Receipt;
+use crate::Received;
+use packet::ACK;
+use packet::DEVICE_DATA;
+use packet::LOG;
+use table::Answer;
+use table::Table;
+use table::Update;
+ghost use mathlib.Core.Path.{_≡_};
+ghost use Rattle.packet.specs.Packet.{decoded};
+ghost use Rattle.hub.specs.Receive.{meaning, refusing, accepting, answering, byType, byReading, receivedOf};
+
+// An error, the table as it was.
+fn refuse(t: Table, number: u8) -> Received
+    ensures { λ r. ⌜ meaning r ≡ refusing t number ⌝ }
+{
+    Received {
+        answer: Receipt::Refused(number),
+        table: t,
+    }
+}
+
+// An accepted packet answers the bytes consumed, beside the table as it was changed.
+fn accept(t: Table, consumed: usize) -> Received
+    ensures { λ r. ⌜ meaning r ≡ accepting t consumed ⌝ }
+{
+    Received {
+        answer: Receipt::Accepted(consumed),
+        table: t,
+    }
+}
+
+// What a change of the table answers, where the packet is `consumed` bytes long.
+fn answer_update(u: Update, consumed: usize) -> Received
+    ensures { λ r. ⌜ meaning r ≡ answering u consumed ⌝ }
+{
+    let a = u.answer;
+    let t = u.table;
+    match a {
+        Answer::Accepted => accept(t, consumed),
+        Answer::Refused(number) => refuse(t, number),
+    }
+}
+
+// A message by its type. PING and DEVICE_WRITE are for devices, not for the hub.
+fn dispatch(c: &[u8], t: Table, socket: u8, kind: u8, payload: &[u8], consumed: usize) -> Received
+    ensures { λ r. ⌜ meaning r ≡ byType (now (c .entry)) t socket kind (now (payload .entry)) consumed ⌝ }
+{
+    match kind {
+        ACK => answer_update(attach::acknowledge(c, t, socket, payload), consumed),
+        DEVICE_DATA => answer_update(parameters::apply_data(c, t, socket, payload), consumed),
+        LOG => accept(t, consumed),
+        _ => refuse(t, 19),
+    }
+}
+
+// The packet at the front of the bytes, or the packet reader's error.
+fn take_packet(c: &[u8], t: Table, socket: u8, bytes: &[u8]) -> Received
+    ensures { λ r. ⌜ meaning r ≡ byReading (now (c .entry)) t socket (decoded (now (bytes .entry))) ⌝ }
+{
+    let d = packet::decode(bytes);
+    let a = d.answer;
+    let message = d.message;
+    let packet::Answer::Packet {
+        kind,
+        payload_len,
+        consumed,
+    } = a
+    else {
+        let packet::Answer::Refused(number) = a else {
+            return refuse(t, 0);
+        };
+        return refuse(t, number);
+    };
+    dispatch(c, t, socket, kind, &message[2..2 + payload_len], consumed)
+}
+
+// Receives the packet at the front of the bytes from a socket: 11, 9, 10, the packet's error, 19, then what its type asks.
+// Nothing of the table is changed before the last error is ruled out.
+pub fn receive(catalogue: &[u8], table: Table, socket: u8, bytes: &[u8]) -> Received
+    ensures { λ r. ⌜ meaning r ≡ receivedOf (now (catalogue .entry)) table socket (now (bytes .entry)) ⌝ }
+{
+    let a = table::admit(catalogue, table, socket);
+    match a {
+        Answer::Accepted => take_packet(catalogue, table, socket, bytes),
+        Answer::Refused(number) => refuse(table, number),
+    }
+}
