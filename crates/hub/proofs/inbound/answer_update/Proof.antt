@@ -1,5 +1,4 @@
 -- `answer_update` is `answering`, by the cases of the answer.
-use mathlib.Core.Path.{_≡_}
 use borrow.Author.Needs.{needs}
 use Rattle.hub.proofs.inbound.answer_update.Statement.{statement}
 use Rattle.hub.proofs.inbound.answer_update.Tie as tie

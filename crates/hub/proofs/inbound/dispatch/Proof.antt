@@ -1,5 +1,4 @@
 -- `dispatch` is `byType`, one arm for each type that the hub takes.
-use mathlib.Core.Path.{_≡_}
 use borrow.Author.Tests.{ne-eqb}
 use Rattle.hub.specs.Receive.{byType}
 use borrow.Author.Needs.{needs}

@@ -1,5 +1,4 @@
 -- `receive` is `receivedOf`, by the cases of the admission.
-use mathlib.Core.Path.{_≡_}
 use Rattle.hub.specs.Receive.{receivedOf}
 use borrow.Author.Needs.{needs}
 use Rattle.hub.proofs.inbound.receive.Statement.{statement}

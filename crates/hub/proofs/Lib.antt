@@ -1,0 +1,4 @@
+pub mod Judgements
+pub mod Keeps
+pub mod Packets
+pub mod Bench
