@@ -12,7 +12,7 @@ static uint8_t pattern_at(size_t at)
     return (uint8_t)(at * 37 + 11);
 }
 
-uint8_t *lend(size_t length)
+uint8_t *new_buffer(size_t length)
 {
     uint8_t *buffer = malloc(length);
     if (buffer == NULL && length > 0) {
@@ -26,7 +26,7 @@ uint8_t *lend(size_t length)
 
 uint8_t *copy_of(const uint8_t *bytes, size_t length)
 {
-    uint8_t *buffer = lend(length);
+    uint8_t *buffer = new_buffer(length);
     if (length > 0)
         memcpy(buffer, bytes, length);
     return buffer;

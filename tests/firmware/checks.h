@@ -7,7 +7,7 @@
 
 /* A buffer of exactly this length that holds a pattern; ends the program if there is
  * no memory. Freed by the caller. */
-uint8_t *lend(size_t length);
+uint8_t *new_buffer(size_t length);
 
 /* A copy of the bytes in a buffer of exactly their length. Freed by the caller. */
 uint8_t *copy_of(const uint8_t *bytes, size_t length);

@@ -18,21 +18,21 @@ static void check_answer(cinder_list_result found, cinder_list_result owed, cons
 static void decode_into(const struct list_case *given, size_t rows_room, size_t store_room)
 {
     static const cinder_list_result too_small = {20, 0, 0, 0};
-    int lent_enough = rows_room >= ROWS_ROOM && store_room >= STORE_ROOM;
+    int large_enough = rows_room >= ROWS_ROOM && store_room >= STORE_ROOM;
     cinder_list_result owed = {given->error, given->consumed, given->row_count, given->offset};
     size_t length;
     uint8_t *bytes = list_bytes(given, &length);
     uint8_t *wanted_rows = list_rows(given);
-    uint8_t *rows = lend(rows_room);
-    uint8_t *store = lend(store_room);
+    uint8_t *rows = new_buffer(rows_room);
+    uint8_t *store = new_buffer(store_room);
 
     cinder_list_result found =
         cinder_list_decode(bytes, length, rows, rows_room, store, store_room);
-    check_answer(found, lent_enough ? owed : too_small, given->name);
-    check(holds(rows, rows_room, wanted_rows, lent_enough ? ROW_BYTES * given->row_count : 0),
+    check_answer(found, large_enough ? owed : too_small, given->name);
+    check(holds(rows, rows_room, wanted_rows, large_enough ? ROW_BYTES * given->row_count : 0),
           given->name, "rows buffer");
     check(holds(store, store_room, (const uint8_t *)given->store,
-                lent_enough ? given->store_length : 0),
+                large_enough ? given->store_length : 0),
           given->name, "store buffer");
     free(store);
     free(rows);
@@ -58,8 +58,8 @@ static void check_cut(const struct list_case *given)
         size_t length;
         uint8_t *whole = list_bytes(given, &length);
         uint8_t *bytes = copy_of(whole, there);
-        uint8_t *rows = lend(ROWS_ROOM);
-        uint8_t *store = lend(STORE_ROOM);
+        uint8_t *rows = new_buffer(ROWS_ROOM);
+        uint8_t *store = new_buffer(STORE_ROOM);
         cinder_list_result found =
             cinder_list_decode(bytes, there, rows, ROWS_ROOM, store, STORE_ROOM);
         check(found.error == 21 && found.consumed == 0 && found.rows == 0, given->name, "cut");
@@ -76,10 +76,10 @@ static void check_cut(const struct list_case *given)
 /* A typed list of ints of 0, 1, 2 .. with this count, of which `there` bytes are given. */
 static void check_ints(uint32_t count, size_t there, cinder_list_result owed, const char *name)
 {
-    uint8_t *bytes = lend(there);
-    uint8_t *rows = lend(ROWS_ROOM);
-    uint8_t *store = lend(STORE_ROOM);
-    uint8_t *wanted = lend(ROWS_ROOM);
+    uint8_t *bytes = new_buffer(there);
+    uint8_t *rows = new_buffer(ROWS_ROOM);
+    uint8_t *store = new_buffer(STORE_ROOM);
+    uint8_t *wanted = new_buffer(ROWS_ROOM);
     uint32_t header[2] = {257, count};
     put_words(bytes, header, 2);
     for (uint32_t at = 2; at < there / 4; at++) {
@@ -104,9 +104,9 @@ static void check_ints(uint32_t count, size_t there, cinder_list_result owed, co
 static void check_blob_up_to(uint32_t end, uint32_t count, cinder_list_result owed)
 {
     uint32_t header[4] = {256, count, 12, end - 16};
-    uint8_t *bytes = lend(end);
-    uint8_t *rows = lend(ROWS_ROOM);
-    uint8_t *store = lend(STORE_ROOM);
+    uint8_t *bytes = new_buffer(end);
+    uint8_t *rows = new_buffer(ROWS_ROOM);
+    uint8_t *store = new_buffer(STORE_ROOM);
     put_words(bytes, header, 4);
     check_answer(cinder_list_decode(bytes, end, rows, ROWS_ROOM, store, STORE_ROOM), owed,
                  "blob before the limit");

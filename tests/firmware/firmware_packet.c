@@ -58,11 +58,11 @@ static const struct packet_case cases[] = {
 static void decode_into(const struct packet_case *given, size_t message_room)
 {
     uint8_t *bytes = copy_of(given->bytes, given->bytes_length);
-    uint8_t *message = lend(message_room);
-    int lent_enough = message_room >= PACKET_ROOM;
-    uint64_t error = lent_enough ? given->error : 20;
-    uint64_t consumed = lent_enough ? given->consumed : 0;
-    size_t message_length = lent_enough ? given->message_length : 0;
+    uint8_t *message = new_buffer(message_room);
+    int large_enough = message_room >= PACKET_ROOM;
+    uint64_t error = large_enough ? given->error : 20;
+    uint64_t consumed = large_enough ? given->consumed : 0;
+    size_t message_length = large_enough ? given->message_length : 0;
 
     cinder_packet_result answer =
         cinder_packet_decode(bytes, given->bytes_length, message, message_room);
@@ -81,50 +81,103 @@ static void check_table(void)
             decode_into(&cases[at], rooms[room]);
 }
 
-/* LOG with this many bytes of 11 as payload. The checksum is odd, so the message has no
- * zero and the encoded part is one block. Answers the packet's length. */
-static size_t log_packet(uint8_t *packet, size_t payload_length)
+/* Puts 00, L and the blocks of a message behind it, whatever the message says. Answers the
+ * packet's length. */
+static size_t packet_of(const uint8_t *message, size_t length, uint8_t *packet)
 {
-    uint8_t length = (uint8_t)payload_length;
+    size_t code_at = 2;
     packet[0] = 0;
-    packet[1] = (uint8_t)(length + 4);
-    packet[2] = (uint8_t)(length + 4);
-    packet[3] = 5;
-    packet[4] = length;
-    memset(packet + 5, 11, payload_length);
-    packet[5 + payload_length] = (uint8_t)(5 ^ length ^ (length % 2 ? 11 : 0));
-    return payload_length + 6;
+    packet[1] = (uint8_t)(length + 1);
+    for (size_t at = 0; at < length; at++) {
+        packet[3 + at] = message[at];
+        if (message[at] == 0) {
+            packet[code_at] = (uint8_t)(3 + at - code_at);
+            code_at = 3 + at;
+        }
+    }
+    packet[code_at] = (uint8_t)(3 + length - code_at);
+    return length + 3;
 }
 
-/* The first bytes of a packet that is good as a whole. */
-static void check_cut(const uint8_t *packet, size_t length, size_t there)
+/* A message with this many payload bytes, some of them 0. Answers the message's length. */
+static size_t message_of(uint8_t type, size_t payload_length, uint8_t *message)
 {
-    const char *name = "LOG of every length";
-    int whole = there == length;
+    message[0] = type;
+    message[1] = (uint8_t)payload_length;
+    for (size_t at = 0; at < payload_length; at++)
+        message[2 + at] = (uint8_t)(at % 7 * (at + 1));
+    message[2 + payload_length] = 0;
+    for (size_t at = 0; at < 2 + payload_length; at++)
+        message[2 + payload_length] ^= message[at];
+    return payload_length + 3;
+}
+
+static int payload_allowed(int type, size_t length)
+{
+    switch (type) {
+    case 1:
+        return length == 0;
+    case 2:
+        return length == 10;
+    case 3:
+    case 4:
+        return length >= 4 && length <= 132;
+    case 5:
+        return length <= PAYLOAD_LIMIT;
+    default:
+        return 0;
+    }
+}
+
+/* The first bytes of a packet that as a whole gives this error, or none. */
+static void check_cut(const uint8_t *packet, size_t length, size_t there, uint64_t error,
+                      const uint8_t *message)
+{
+    const char *name = "every type and payload length";
+    int good = there == length && error == 0;
     uint8_t *bytes = copy_of(packet, there);
-    uint8_t *message = lend(PACKET_ROOM);
-    cinder_packet_result answer = cinder_packet_decode(bytes, there, message, PACKET_ROOM);
-    check(answer.error == (whole ? 0 : 1), name, "error");
-    check(answer.consumed == (whole ? length : 0), name, "consumed");
-    check(holds(message, PACKET_ROOM, packet + 3, whole ? length - 3 : 0), name, "message");
-    free(message);
+    uint8_t *buffer = new_buffer(PACKET_ROOM);
+    cinder_packet_result answer = cinder_packet_decode(bytes, there, buffer, PACKET_ROOM);
+    check(answer.error == (there == length ? error : 1), name, "error");
+    check(answer.consumed == (good ? length : 0), name, "consumed");
+    check(holds(buffer, PACKET_ROOM, message, good ? length - 3 : 0), name, "message");
+    free(buffer);
     free(bytes);
 }
 
-/* LOG of every payload length but 0, which the table has, cut at every byte. */
-static void check_log_lengths(void)
+/* LOG with 251 bytes of 11: one block of code 255, which is the whole part. */
+static void check_whole_block(void)
 {
-    for (size_t payload_length = 1; payload_length <= PAYLOAD_LIMIT; payload_length++) {
-        uint8_t packet[PACKET_ROOM];
-        size_t length = log_packet(packet, payload_length);
-        for (size_t there = 0; there <= length; there++)
-            check_cut(packet, length, there);
+    uint8_t message[PACKET_ROOM] = {5, PAYLOAD_LIMIT};
+    uint8_t packet[PACKET_ROOM];
+    memset(message + 2, 11, PAYLOAD_LIMIT);
+    message[2 + PAYLOAD_LIMIT] = 5 ^ PAYLOAD_LIMIT ^ 11;
+    size_t length = packet_of(message, PAYLOAD_LIMIT + 3, packet);
+    check(length == PACKET_ROOM && packet[2] == 255, "one block of code 255", "packet");
+    check_cut(packet, length, length, 0, message);
+}
+
+/* Every type and every payload length, whole; LOG also cut at every byte. */
+static void check_types_and_lengths(void)
+{
+    for (int type = 0; type <= 6; type++) {
+        for (size_t payload_length = 0; payload_length <= PAYLOAD_LIMIT; payload_length++) {
+            uint8_t message[PACKET_ROOM];
+            uint8_t packet[PACKET_ROOM];
+            size_t message_length = message_of((uint8_t)type, payload_length, message);
+            size_t length = packet_of(message, message_length, packet);
+            uint64_t error = payload_allowed(type, payload_length) ? 0 : 8;
+            size_t first = type == 5 ? 0 : length;
+            for (size_t there = first; there <= length; there++)
+                check_cut(packet, length, there, error, message);
+        }
     }
 }
 
 int main(void)
 {
     check_table();
-    check_log_lengths();
+    check_types_and_lengths();
+    check_whole_block();
     return finish();
 }

@@ -20,8 +20,8 @@ struct step {
 static void check_step(const uint8_t *bytes, size_t length, uint64_t offset, size_t rows_room,
                        size_t store_room, const struct step *owed)
 {
-    uint8_t *rows = lend(rows_room);
-    uint8_t *store = lend(store_room);
+    uint8_t *rows = new_buffer(rows_room);
+    uint8_t *store = new_buffer(store_room);
     cinder_list_result found =
         cinder_stream_next(bytes, length, offset, rows, rows_room, store, store_room);
     check(found.error == owed->answer.error, owed->name, "error");
@@ -70,7 +70,7 @@ static void check_behind_primes(const struct list_case *given)
     size_t length;
     uint8_t *first = list_bytes(primes, &front);
     uint8_t *second = list_bytes(given, &length);
-    uint8_t *bytes = lend(front + length);
+    uint8_t *bytes = new_buffer(front + length);
     memcpy(bytes, first, front);
     memcpy(bytes + front, second, length);
 
@@ -95,7 +95,7 @@ static void check_examples(void)
     size_t length;
     uint8_t *first = list_bytes(primes, &front);
     uint8_t *second = list_bytes(two_lists, &length);
-    uint8_t *bytes = lend(114);
+    uint8_t *bytes = new_buffer(114);
     memcpy(bytes, first, front);
     memcpy(bytes + front, second, length);
     memset(bytes + front + length, 0, 2);
@@ -122,7 +122,7 @@ static void check_examples(void)
 static void check_empty(void)
 {
     struct step owed = past_end(1);
-    uint8_t *bytes = lend(0);
+    uint8_t *bytes = new_buffer(0);
     check_step(bytes, 0, 0, ROWS_ROOM, STORE_ROOM, &at_end);
     check_step(bytes, 0, 1, ROWS_ROOM, STORE_ROOM, &owed);
     check_step(bytes, 0, 0, 0, 0, &too_small);
@@ -133,15 +133,15 @@ static void check_empty(void)
 static void check_limit(void)
 {
     size_t length = 8 + 4100;
-    uint8_t *bytes = lend(length);
+    uint8_t *bytes = new_buffer(length);
     uint32_t header[4] = {256, 0, 257, 1023};
     struct step owed = {"1,023 ints behind a list", {28, 0, 0, 8 + 4096}, NULL, NULL, 0};
     put_words(bytes, header, 4);
     check_step(bytes, length, 8, ROWS_ROOM, STORE_ROOM, &owed);
     header[3] = 1022;
     put_words(bytes, header, 4);
-    uint8_t *rows = lend(ROWS_ROOM);
-    uint8_t *store = lend(STORE_ROOM);
+    uint8_t *rows = new_buffer(ROWS_ROOM);
+    uint8_t *store = new_buffer(STORE_ROOM);
     cinder_list_result found =
         cinder_stream_next(bytes, length, 8, rows, ROWS_ROOM, store, STORE_ROOM);
     check(found.error == 0 && found.consumed == 4096 && found.rows == 1023 && found.offset == 0,

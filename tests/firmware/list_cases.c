@@ -4,7 +4,7 @@
 
 #include <string.h>
 
-#define REFUSED(error, offset) error, offset, 0, 0
+#define FAILS(error, offset) error, offset, 0, 0
 #define NO_TAIL NULL, {{0}}, NULL
 
 const struct list_case list_cases[] = {
@@ -17,14 +17,14 @@ const struct list_case list_cases[] = {
      {{256, 2, 0}, {256, 3, 0}, {1, 91, 0}, {1, 92, 0}, {1, 93, 0},
       {256, 4, 0}, {4, 0, 4}, {4, 4, 2}, {4, 6, 1}, {4, 7, 9}}, "thisisagood list"},
     {"empty list", 0, 0, 8, 1, 2, 0, 0, {256, 0}, NULL, {{256, 0, 0}}, NULL},
-    {"typed list of 0", REFUSED(24, 0), 2, 0, 0, {257, 0}, NO_TAIL},
-    {"256 list of one int", REFUSED(24, 0), 4, 0, 0, {256, 1, 1, 5}, NO_TAIL},
-    {"code 512", REFUSED(22, 0), 2, 0, 0, {512, 0}, NO_TAIL},
+    {"typed list of 0", FAILS(24, 0), 2, 0, 0, {257, 0}, NO_TAIL},
+    {"256 list of one int", FAILS(24, 0), 4, 0, 0, {256, 1, 1, 5}, NO_TAIL},
+    {"code 512", FAILS(22, 0), 2, 0, 0, {512, 0}, NO_TAIL},
     {"eight nested", 0, 0, 64, 8, 16, 0, 0,
      {256, 1, 256, 1, 256, 1, 256, 1, 256, 1, 256, 1, 256, 1, 256, 0}, NULL,
      {{256, 1, 0}, {256, 1, 0}, {256, 1, 0}, {256, 1, 0},
       {256, 1, 0}, {256, 1, 0}, {256, 1, 0}, {256, 0, 0}}, NULL},
-    {"nine nested", REFUSED(27, 64), 18, 0, 0,
+    {"nine nested", FAILS(27, 64), 18, 0, 0,
      {256, 1, 256, 1, 256, 1, 256, 1, 256, 1, 256, 1, 256, 1, 256, 1, 256, 0}, NO_TAIL},
     /* Every kind, later bytes ignored. */
     {"one of each kind", 0, 0, 58, 6, 13, 11, 5,
@@ -37,29 +37,29 @@ const struct list_case list_cases[] = {
     {"empty blob", 0, 0, 12, 2, 3, 0, 0, {268, 1, 0}, NULL, {{256, 1, 0}, {12, 0, 0}}, NULL},
     {"empty string", 0, 0, 13, 2, 3, 2, 0, {260, 1, 1}, "\0\7", {{256, 1, 0}, {4, 0, 0}}, NULL},
     /* Offsets of faults. */
-    {"no bytes", REFUSED(21, 0), 0, 0, 0, {0}, NO_TAIL},
-    {"three bytes", REFUSED(21, 0), 0, 3, 0, {0}, "\0\1\0", {{0}}, NULL},
-    {"no count", REFUSED(21, 4), 1, 0, 0, {256}, NO_TAIL},
-    {"no element", REFUSED(21, 8), 2, 0, 0, {256, 1}, NO_TAIL},
-    {"count beyond the bytes", REFUSED(21, 8), 2, 0, 0, {257, 0x7fffffff}, NO_TAIL},
-    {"count below 0", REFUSED(23, 4), 2, 0, 0, {256, 0xffffffff}, NO_TAIL},
-    {"typed count below 0", REFUSED(23, 4), 2, 0, 0, {257, 0x80000000}, NO_TAIL},
-    {"second element cut", REFUSED(21, 20), 5, 0, 0, {256, 2, 1, 5, 1}, NO_TAIL},
-    {"two ints in a 256 list", REFUSED(24, 0), 6, 0, 0, {256, 2, 1, 5, 1, 6}, NO_TAIL},
-    {"inner list at fault", REFUSED(24, 8), 7, 0, 0, {256, 2, 256, 1, 1, 5, 7}, NO_TAIL},
-    {"inner typed list of 0", REFUSED(24, 8), 4, 0, 0, {256, 2, 265, 0}, NO_TAIL},
-    {"unknown element", REFUSED(26, 8), 3, 0, 0, {256, 1, 7}, NO_TAIL},
-    {"unknown element at depth 8", REFUSED(26, 64), 17, 0, 0,
+    {"no bytes", FAILS(21, 0), 0, 0, 0, {0}, NO_TAIL},
+    {"three bytes", FAILS(21, 0), 0, 3, 0, {0}, "\0\1\0", {{0}}, NULL},
+    {"no count", FAILS(21, 4), 1, 0, 0, {256}, NO_TAIL},
+    {"no element", FAILS(21, 8), 2, 0, 0, {256, 1}, NO_TAIL},
+    {"count beyond the bytes", FAILS(21, 8), 2, 0, 0, {257, 0x7fffffff}, NO_TAIL},
+    {"count below 0", FAILS(23, 4), 2, 0, 0, {256, 0xffffffff}, NO_TAIL},
+    {"typed count below 0", FAILS(23, 4), 2, 0, 0, {257, 0x80000000}, NO_TAIL},
+    {"second element cut", FAILS(21, 20), 5, 0, 0, {256, 2, 1, 5, 1}, NO_TAIL},
+    {"two ints in a 256 list", FAILS(24, 0), 6, 0, 0, {256, 2, 1, 5, 1, 6}, NO_TAIL},
+    {"inner list at fault", FAILS(24, 8), 7, 0, 0, {256, 2, 256, 1, 1, 5, 7}, NO_TAIL},
+    {"inner typed list of 0", FAILS(24, 8), 4, 0, 0, {256, 2, 265, 0}, NO_TAIL},
+    {"unknown element", FAILS(26, 8), 3, 0, 0, {256, 1, 7}, NO_TAIL},
+    {"unknown element at depth 8", FAILS(26, 64), 17, 0, 0,
      {256, 1, 256, 1, 256, 1, 256, 1, 256, 1, 256, 1, 256, 1, 256, 1, 512}, NO_TAIL},
-    {"string length 0", REFUSED(25, 8), 3, 0, 0, {260, 1, 0}, NO_TAIL},
-    {"string length below 0", REFUSED(25, 8), 3, 0, 0, {260, 1, 0xffffffff}, NO_TAIL},
-    {"blob length below 0", REFUSED(25, 8), 3, 0, 0, {268, 1, 0x80000000}, NO_TAIL},
-    {"string length beyond the limit", REFUSED(28, 12), 3, 0, 0, {260, 1, 0x7fffffff}, NO_TAIL},
-    {"blob one beyond the limit", REFUSED(28, 12), 3, 0, 0, {268, 1, 4085}, NO_TAIL},
-    {"blob to the limit, cut", REFUSED(21, 12), 3, 0, 0, {268, 1, 4084}, NO_TAIL},
-    {"zero within a string", REFUSED(25, 12), 3, 4, 0, {260, 1, 4}, "A\0A\0", {{0}}, NULL},
-    {"string not closed", REFUSED(25, 12), 3, 4, 0, {260, 1, 4}, "AAAA", {{0}}, NULL},
-    {"string cut", REFUSED(21, 12), 3, 3, 0, {260, 1, 4}, "A\0A", {{0}}, NULL},
+    {"string length 0", FAILS(25, 8), 3, 0, 0, {260, 1, 0}, NO_TAIL},
+    {"string length below 0", FAILS(25, 8), 3, 0, 0, {260, 1, 0xffffffff}, NO_TAIL},
+    {"blob length below 0", FAILS(25, 8), 3, 0, 0, {268, 1, 0x80000000}, NO_TAIL},
+    {"string length beyond the limit", FAILS(28, 12), 3, 0, 0, {260, 1, 0x7fffffff}, NO_TAIL},
+    {"blob one beyond the limit", FAILS(28, 12), 3, 0, 0, {268, 1, 4085}, NO_TAIL},
+    {"blob to the limit, cut", FAILS(21, 12), 3, 0, 0, {268, 1, 4084}, NO_TAIL},
+    {"zero within a string", FAILS(25, 12), 3, 4, 0, {260, 1, 4}, "A\0A\0", {{0}}, NULL},
+    {"string not closed", FAILS(25, 12), 3, 4, 0, {260, 1, 4}, "AAAA", {{0}}, NULL},
+    {"string cut", FAILS(21, 12), 3, 3, 0, {260, 1, 4}, "A\0A", {{0}}, NULL},
 };
 
 const size_t list_case_count = sizeof list_cases / sizeof list_cases[0];
@@ -73,7 +73,7 @@ void put_words(uint8_t *bytes, const uint32_t *words, size_t count)
 uint8_t *list_bytes(const struct list_case *given, size_t *length)
 {
     *length = 4 * given->word_count + given->tail_length;
-    uint8_t *bytes = lend(*length);
+    uint8_t *bytes = new_buffer(*length);
     put_words(bytes, given->words, given->word_count);
     if (given->tail_length > 0)
         memcpy(bytes + 4 * given->word_count, given->tail, given->tail_length);
@@ -82,7 +82,7 @@ uint8_t *list_bytes(const struct list_case *given, size_t *length)
 
 uint8_t *list_rows(const struct list_case *given)
 {
-    uint8_t *rows = lend(ROW_BYTES * given->row_count);
+    uint8_t *rows = new_buffer(ROW_BYTES * given->row_count);
     for (size_t row = 0; row < given->row_count; row++)
         put_words(rows + ROW_BYTES * row, given->rows[row], 3);
     return rows;

@@ -24,29 +24,26 @@ const WORD: usize = 4;
 /// A list's code and count.
 const LIST_HEADER: usize = 2 * WORD;
 
-/// The kinds of element other than list.
+/// The kinds of element other than list, by their codes.
 #[derive(Clone, Copy, PartialEq, Eq, Debug)]
+#[repr(u32)]
 pub enum Kind {
-    Int,
-    Vocab,
-    Float,
-    String,
-    Blob,
+    Int = 1,
+    String = 4,
+    Vocab = 9,
+    Float = 10,
+    Blob = 12,
 }
 
 impl Kind {
     pub const ALL: [Kind; 5] = [Kind::Int, Kind::Vocab, Kind::Float, Kind::String, Kind::Blob];
 
+    #[inline]
     pub const fn code(self) -> u32 {
-        match self {
-            Kind::Int => 1,
-            Kind::String => 4,
-            Kind::Vocab => 9,
-            Kind::Float => 10,
-            Kind::Blob => 12,
-        }
+        self as u32
     }
 
+    #[inline]
     pub const fn of_code(code: u32) -> Option<Kind> {
         match code {
             1 => Some(Kind::Int),
@@ -93,11 +90,11 @@ pub struct Decoded {
 /// `rows` and its string and blob bytes to the front of `store`.
 pub fn decode(bytes: &[u8], rows: &mut [u8], store: &mut [u8]) -> Result<Decoded, ListError> {
     if rows.len() < ROWS_ROOM || store.len() < STORE_ROOM {
-        return Err(fault(Error::BufferTooSmall, 0));
+        return Err(ListError { error: Error::BufferTooSmall, offset: 0 });
     }
     let bytes = &bytes[..bytes.len().min(LIST_LIMIT)];
     let mut judge = Judge { bytes, at: 0 };
-    judge.outermost()?;
+    judge.outermost().map_err(|Fault(error, offset)| ListError { error, offset: offset.into() })?;
     let consumed = judge.at;
     let mut fill = Fill { bytes, at: 0, rows, filled: 0, store, used: 0 };
     let code = fill.word();
@@ -105,8 +102,11 @@ pub fn decode(bytes: &[u8], rows: &mut [u8], store: &mut [u8]) -> Result<Decoded
     Ok(Decoded { consumed, rows: fill.filled / ROW_BYTES })
 }
 
-fn fault(error: Error, offset: usize) -> ListError {
-    ListError { error, offset: offset as u64 }
+/// An error and its offset, which is at most the limit; small enough for a register.
+struct Fault(Error, u16);
+
+fn fault(error: Error, offset: usize) -> Fault {
+    Fault(error, offset as u16)
 }
 
 fn word_at(bytes: &[u8], at: usize) -> u32 {
@@ -123,7 +123,7 @@ struct Judge<'a> {
 impl Judge<'_> {
     /// Passes one item of this size and answers its offset.
     #[inline]
-    fn item(&mut self, size: usize) -> Result<usize, ListError> {
+    fn item(&mut self, size: usize) -> Result<usize, Fault> {
         let start = self.at;
         let end = start + size;
         if end > self.bytes.len() {
@@ -134,19 +134,19 @@ impl Judge<'_> {
     }
 
     #[inline]
-    fn word(&mut self) -> Result<u32, ListError> {
+    fn word(&mut self) -> Result<u32, Fault> {
         let start = self.item(WORD)?;
         Ok(word_at(self.bytes, start))
     }
 
-    fn outermost(&mut self) -> Result<(), ListError> {
+    fn outermost(&mut self) -> Result<(), Fault> {
         let code = self.word()?;
         let form = Form::of_code(code).ok_or(fault(Error::NotAListCode, 0))?;
         self.list(form, 0, 1)
     }
 
     /// A list from its count on; its code stands at `code_at`.
-    fn list(&mut self, form: Form, code_at: usize, depth: usize) -> Result<(), ListError> {
+    fn list(&mut self, form: Form, code_at: usize, depth: usize) -> Result<(), Fault> {
         let count_at = self.at;
         let count = self.word()?;
         if (count as i32) < 0 {
@@ -164,7 +164,7 @@ impl Judge<'_> {
     }
 
     /// Elements of one size: all fit, or the first that doesn't is at fault.
-    fn fixed(&mut self, count: usize, size: usize) -> Result<(), ListError> {
+    fn fixed(&mut self, count: usize, size: usize) -> Result<(), Fault> {
         let fitting = (self.bytes.len() - self.at) / size;
         self.at += size * count.min(fitting);
         if count > fitting {
@@ -173,7 +173,7 @@ impl Judge<'_> {
         Ok(())
     }
 
-    fn untyped(&mut self, count: usize, code_at: usize, depth: usize) -> Result<(), ListError> {
+    fn untyped(&mut self, count: usize, code_at: usize, depth: usize) -> Result<(), Fault> {
         let mut one_kind = count > 0;
         let mut first = None;
         for _ in 0..count {
@@ -193,7 +193,7 @@ impl Judge<'_> {
     }
 
     /// An element whose code, at `code_at`, is none of the kinds': a list, if any.
-    fn nested(&mut self, code: u32, code_at: usize, depth: usize) -> Result<(), ListError> {
+    fn nested(&mut self, code: u32, code_at: usize, depth: usize) -> Result<(), Fault> {
         let form = Form::of_code(code).ok_or(fault(Error::ElementCodeUnknown, code_at))?;
         if depth == DEPTH_LIMIT {
             return Err(fault(Error::TooDeep, code_at));
@@ -202,7 +202,7 @@ impl Judge<'_> {
     }
 
     #[inline]
-    fn element(&mut self, kind: Kind) -> Result<(), ListError> {
+    fn element(&mut self, kind: Kind) -> Result<(), Fault> {
         match kind {
             Kind::Int | Kind::Vocab => self.item(WORD).map(drop),
             Kind::Float => self.item(2 * WORD).map(drop),
@@ -211,7 +211,7 @@ impl Judge<'_> {
         }
     }
 
-    fn string(&mut self) -> Result<(), ListError> {
+    fn string(&mut self) -> Result<(), Fault> {
         let length_at = self.at;
         let length = self.word()?;
         if (length as i32) < 1 {
@@ -225,7 +225,7 @@ impl Judge<'_> {
         Ok(())
     }
 
-    fn blob(&mut self) -> Result<(), ListError> {
+    fn blob(&mut self) -> Result<(), Fault> {
         let length_at = self.at;
         let length = self.word()?;
         if (length as i32) < 0 {
@@ -238,7 +238,7 @@ impl Judge<'_> {
 
 /// The fault of an item that does not fit: the limit comes before the end of the bytes.
 #[cold]
-fn item_cut(start: usize, end: usize) -> ListError {
+fn item_cut(start: usize, end: usize) -> Fault {
     let error = if end > LIST_LIMIT { Error::BeyondLimit } else { Error::ListEnds };
     fault(error, start)
 }

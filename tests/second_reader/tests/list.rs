@@ -11,7 +11,6 @@ fn words(words: &[u32]) -> Vec<u8> {
     words.iter().flat_map(|word| word.to_le_bytes()).collect()
 }
 
-/// The numbers of rows, after which the buffer must be as it was lent.
 fn numbers(rows: &[u8]) -> Vec<u32> {
     rows.chunks(4).map(|word| u32::from_le_bytes(word.try_into().unwrap())).collect()
 }
@@ -37,12 +36,12 @@ fn read(bytes: &[u8]) -> Result<(usize, Vec<u32>, Vec<u8>), (u64, u64)> {
     }
 }
 
-fn refused(bytes: &[u8], error: u64, offset: u64) {
+fn fails(bytes: &[u8], error: u64, offset: u64) {
     assert_eq!(read(bytes), Err((error, offset)), "{bytes:02x?}");
 }
 
-fn refused_words(given: &[u32], error: u64, offset: u64) {
-    refused(&words(given), error, offset);
+fn words_fail(given: &[u32], error: u64, offset: u64) {
+    fails(&words(given), error, offset);
 }
 
 fn write(rows: &[u32], store: &[u8]) -> Result<Vec<u8>, u64> {
@@ -102,54 +101,54 @@ fn bench_cases() {
     assert_eq!(write(&rows, &store), Ok(bytes));
 
     assert_eq!(read(&words(&[256, 0])), Ok((8, vec![256, 0, 0], vec![])));
-    refused_words(&[257, 0], 24, 0);
-    refused_words(&[256, 1, 1, 5], 24, 0);
-    refused_words(&[512, 0], 22, 0);
+    words_fail(&[257, 0], 24, 0);
+    words_fail(&[256, 1, 1, 5], 24, 0);
+    words_fail(&[512, 0], 22, 0);
     assert_eq!(read(&nested(8)).map(|read| read.0), Ok(64));
-    refused(&nested(9), 27, 64);
+    fails(&nested(9), 27, 64);
     assert_eq!(read(&ints(1022)).map(|(taken, rows, _)| (taken, rows.len())), Ok((4096, 3 * 1023)));
-    refused(&ints(1023), 28, 4096);
+    fails(&ints(1023), 28, 4096);
 }
 
 #[test]
 fn places_of_faults() {
     let mut string = words(&[260, 1, 4]);
     string.extend(b"A\0A\0");
-    refused(&string, 25, 12);
-    refused_words(&[256, 1], 21, 8);
-    refused(&[], 21, 0);
-    refused(&[0, 1, 0], 21, 0);
-    refused_words(&[256], 21, 4);
-    refused_words(&[257, 0x7fff_ffff], 21, 8);
+    fails(&string, 25, 12);
+    words_fail(&[256, 1], 21, 8);
+    fails(&[], 21, 0);
+    fails(&[0, 1, 0], 21, 0);
+    words_fail(&[256], 21, 4);
+    words_fail(&[257, 0x7fff_ffff], 21, 8);
     let mut promising = words(&[257, 0x7fff_ffff]);
     promising.resize(5000, 0);
-    refused(&promising, 28, 4096);
-    refused_words(&[257, 0x8000_0000], 23, 4);
-    refused_words(&[256, 0xffff_ffff], 23, 4);
-    refused_words(&[256, 2, 1, 5, 1], 21, 20);
-    refused_words(&[256, 2, 1, 5, 1, 6], 24, 0);
-    refused_words(&[256, 2, 256, 1, 1, 5, 7], 24, 8);
-    refused_words(&[256, 2, 265, 0], 24, 8);
-    refused_words(&[256, 1, 7], 26, 8);
-    refused_words(&[256, 1, 0], 26, 8);
-    refused_words(&[0xffff_ff00, 0], 22, 0);
-    refused_words(&[1, 5], 22, 0);
+    fails(&promising, 28, 4096);
+    words_fail(&[257, 0x8000_0000], 23, 4);
+    words_fail(&[256, 0xffff_ffff], 23, 4);
+    words_fail(&[256, 2, 1, 5, 1], 21, 20);
+    words_fail(&[256, 2, 1, 5, 1, 6], 24, 0);
+    words_fail(&[256, 2, 256, 1, 1, 5, 7], 24, 8);
+    words_fail(&[256, 2, 265, 0], 24, 8);
+    words_fail(&[256, 1, 7], 26, 8);
+    words_fail(&[256, 1, 0], 26, 8);
+    words_fail(&[0xffff_ff00, 0], 22, 0);
+    words_fail(&[1, 5], 22, 0);
     assert!(read(&words(&[256, 2, 257, 1, 5, 257, 1, 5])).is_ok());
 }
 
 #[test]
 fn lengths_of_strings_and_blobs() {
-    refused_words(&[260, 1, 0], 25, 8);
-    refused_words(&[260, 1, 0xffff_ffff], 25, 8);
-    refused_words(&[268, 1, 0xffff_ffff], 25, 8);
-    refused_words(&[268, 1, 0x8000_0000], 25, 8);
-    refused_words(&[260, 1, 0x7fff_ffff], 28, 12);
-    refused_words(&[268, 1, 0x7fff_ffff], 28, 12);
-    refused_words(&[268, 1, 4085], 28, 12);
-    refused_words(&[268, 1, 4084], 21, 12);
-    refused_words(&[268, 1], 21, 8);
-    refused_words(&[256, 2, 4, 0], 25, 12);
-    refused_words(&[260, 1, 4, 0x41414141], 25, 12);
+    words_fail(&[260, 1, 0], 25, 8);
+    words_fail(&[260, 1, 0xffff_ffff], 25, 8);
+    words_fail(&[268, 1, 0xffff_ffff], 25, 8);
+    words_fail(&[268, 1, 0x8000_0000], 25, 8);
+    words_fail(&[260, 1, 0x7fff_ffff], 28, 12);
+    words_fail(&[268, 1, 0x7fff_ffff], 28, 12);
+    words_fail(&[268, 1, 4085], 28, 12);
+    words_fail(&[268, 1, 4084], 21, 12);
+    words_fail(&[268, 1], 21, 8);
+    words_fail(&[256, 2, 4, 0], 25, 12);
+    words_fail(&[260, 1, 4, 0x41414141], 25, 12);
     assert_eq!(read(&words(&[268, 1, 0])), Ok((12, vec![256, 1, 0, 12, 0, 0], vec![])));
     let mut empty_string = words(&[260, 1, 1]);
     empty_string.push(0);
@@ -166,12 +165,12 @@ fn blob_up_to(end: usize, count: u32, behind: &[u8]) -> Vec<u8> {
 
 #[test]
 fn the_limit_comes_before_the_end() {
-    refused(&blob_up_to(4096, 2, &[]), 28, 4096);
-    refused(&blob_up_to(4096, 2, &words(&[1, 5])), 28, 4096);
-    refused(&blob_up_to(4093, 2, &[]), 28, 4093);
-    refused(&blob_up_to(4092, 2, &[]), 21, 4092);
-    refused(&blob_up_to(4092, 2, &words(&[1])), 28, 4096);
-    refused(&blob_up_to(4092, 2, &words(&[7])), 26, 4092);
+    fails(&blob_up_to(4096, 2, &[]), 28, 4096);
+    fails(&blob_up_to(4096, 2, &words(&[1, 5])), 28, 4096);
+    fails(&blob_up_to(4093, 2, &[]), 28, 4093);
+    fails(&blob_up_to(4092, 2, &[]), 21, 4092);
+    fails(&blob_up_to(4092, 2, &words(&[1])), 28, 4096);
+    fails(&blob_up_to(4092, 2, &words(&[7])), 26, 4092);
     // The last element is a blob of no bytes that stands at the limit.
     let bytes = blob_up_to(4080, 3, &words(&[1, 5, 12, 0]));
     assert_eq!(read(&bytes).map(|read| read.0), Ok(4096));
@@ -182,14 +181,22 @@ fn the_limit_comes_before_the_end() {
 fn depth_is_judged_at_the_code() {
     let mut at_depth_8 = [256, 1].repeat(8);
     at_depth_8.push(7);
-    refused_words(&at_depth_8, 26, 64);
+    words_fail(&at_depth_8, 26, 64);
     for code in [256, 257, 260, 265, 266, 268] {
         at_depth_8[16] = code;
-        refused_words(&at_depth_8, 27, 64);
+        words_fail(&at_depth_8, 27, 64);
     }
     at_depth_8[16] = 512;
-    refused_words(&at_depth_8, 26, 64);
-    refused(&words(&at_depth_8)[..67], 21, 64);
+    words_fail(&at_depth_8, 26, 64);
+    fails(&words(&at_depth_8)[..67], 21, 64);
+    // A list code at depth 9 that passes the limit: the blob before it ends at `end`.
+    for (end, error) in [(4092, 27), (4093, 28)] {
+        let mut bytes = words(&[256, 1].repeat(7));
+        bytes.extend(words(&[256, 2, 12, end - 72]));
+        bytes.resize(end as usize, 0x55);
+        bytes.extend(words(&[256, 0]));
+        fails(&bytes, error, end.into());
+    }
 }
 
 #[test]
@@ -320,7 +327,7 @@ fn written_by_definition(tree: &[Element]) -> Result<Vec<u8>, u64> {
 fn round_trips() {
     let mut random = Random::new(5);
     let mut accepted = 0;
-    for number in 0..30_000 {
+    for number in 0..12_000 {
         let tree = match number % 4 {
             0 => generate::around_the_limit(&mut random),
             1 => {
@@ -348,14 +355,14 @@ fn round_trips() {
             Err(_) => assert_eq!(read(&image).unwrap_err().0, 28),
         }
     }
-    assert!(accepted > 20_000, "{accepted}");
+    assert!(accepted > 8_000, "{accepted}");
 }
 
 #[test]
 fn what_is_accepted_writes_back() {
     let mut random = Random::new(6);
     let mut met = [0; 32];
-    for _ in 0..60_000 {
+    for _ in 0..30_000 {
         let bytes = generate::any(&mut random);
         match read(&bytes) {
             Ok((consumed, rows, store)) => {
@@ -383,11 +390,129 @@ fn every_kind_typed_and_untyped() {
         let typed = generate::image(&[one.clone(), one.clone()]);
         assert_eq!(typed[..8], words(&[code, 2])[..]);
         assert!(read(&typed).is_ok());
-        refused(&generate::misformed_image(&[one.clone(), one.clone()], 0), 24, 0);
+        fails(&generate::misformed_image(&[one.clone(), one.clone()], 0), 24, 0);
         for (second, other) in kinds.iter().enumerate() {
             let mixed = generate::image(&[one.clone(), other.clone()]);
             assert_eq!(mixed[..4] == words(&[256])[..], first != second);
             assert!(read(&mixed).is_ok());
         }
+    }
+}
+
+/// Reading item by item as the paper words it, with no short cut for lists of one kind
+/// and no limit on what is looked at ahead of an item.
+struct Definition<'a> {
+    bytes: &'a [u8],
+    at: usize,
+    rows: Vec<u32>,
+    store: Vec<u8>,
+}
+
+impl Definition<'_> {
+    fn read(bytes: &[u8]) -> Result<(usize, Vec<u32>, Vec<u8>), (u64, u64)> {
+        let mut reading = Definition { bytes, at: 0, rows: vec![], store: vec![] };
+        let code = reading.word()?;
+        if !Self::is_list(code) {
+            return Err((22, 0));
+        }
+        reading.list(code, 0, 1)?;
+        Ok((reading.at, reading.rows, reading.store))
+    }
+
+    fn is_kind(code: u32) -> bool {
+        [1, 4, 9, 10, 12].contains(&code)
+    }
+
+    fn is_list(code: u32) -> bool {
+        code == 256 || (code > 256 && Self::is_kind(code - 256))
+    }
+
+    fn item(&mut self, size: usize) -> Result<Vec<u8>, (u64, u64)> {
+        let (start, end) = (self.at, self.at + size);
+        if end > 4096 {
+            return Err((28, start as u64));
+        }
+        if end > self.bytes.len() {
+            return Err((21, start as u64));
+        }
+        self.at = end;
+        Ok(self.bytes[start..end].to_vec())
+    }
+
+    fn word(&mut self) -> Result<u32, (u64, u64)> {
+        self.item(4).map(|bytes| u32::from_le_bytes(bytes.try_into().unwrap()))
+    }
+
+    fn list(&mut self, code: u32, code_at: u64, depth: u32) -> Result<(), (u64, u64)> {
+        let count_at = self.at as u64;
+        let count = self.word()?;
+        if count > i32::MAX as u32 {
+            return Err((23, count_at));
+        }
+        self.rows.extend([256, count, 0]);
+        if code > 256 && count == 0 {
+            return Err((24, code_at));
+        }
+        let mut kinds = std::collections::BTreeSet::new();
+        for _ in 0..count {
+            let element_at = self.at as u64;
+            let element = if code > 256 { code - 256 } else { self.word()? };
+            if Self::is_kind(element) {
+                kinds.insert(element);
+                self.element(element)?;
+            } else if !Self::is_list(element) {
+                return Err((26, element_at));
+            } else if depth == 8 {
+                return Err((27, element_at));
+            } else {
+                kinds.insert(256);
+                self.list(element, element_at, depth + 1)?;
+            }
+        }
+        if code == 256 && kinds.len() == 1 && !kinds.contains(&256) {
+            return Err((24, code_at));
+        }
+        Ok(())
+    }
+
+    fn element(&mut self, code: u32) -> Result<(), (u64, u64)> {
+        let length_at = self.at as u64;
+        let first = self.word_or_float(code)?;
+        match code {
+            1 | 9 => self.rows.extend([code, first as u32, 0]),
+            10 => self.rows.extend([code, first as u32, (first >> 32) as u32]),
+            _ => {
+                let length = first as u32 as i32;
+                if length < i32::from(code == 4) {
+                    return Err((25, length_at));
+                }
+                let run_at = self.at as u64;
+                let mut run = self.item(length as usize)?;
+                if code == 4 && run.iter().position(|&byte| byte == 0) != Some(run.len() - 1) {
+                    return Err((25, run_at));
+                }
+                run.truncate(run.len() - usize::from(code == 4));
+                self.rows.extend([code, self.store.len() as u32, run.len() as u32]);
+                self.store.extend(run);
+            }
+        }
+        Ok(())
+    }
+
+    /// The 8 bytes of a float; else the number that an element begins with.
+    fn word_or_float(&mut self, code: u32) -> Result<u64, (u64, u64)> {
+        match code {
+            10 => self.item(8).map(|bytes| u64::from_le_bytes(bytes.try_into().unwrap())),
+            _ => self.word().map(u64::from),
+        }
+    }
+}
+
+#[test]
+fn reads_as_defined() {
+    let mut random = Random::new(13);
+    for _ in 0..20_000 {
+        let bytes = generate::any(&mut random);
+        assert_eq!(read(&bytes), Definition::read(&bytes), "{bytes:02x?}");
     }
 }

@@ -205,15 +205,11 @@ fn bad_record(random: &mut Random, script: &mut Script) {
     }
 }
 
-/// A whole input: few records under a damaged catalogue, many under a good one, and
-/// at the end the table. One in a few hundred is as long as an input may be, or longer,
-/// filled up with short records whose lines are short.
-pub fn any(random: &mut Random) -> Vec<u8> {
-    let good = !random.once_in(5);
-    let bytes = if good { catalogue::legal(random) } else { catalogue::damaged(random) };
-    let records = if good { random.pick(&[1, 10, 60, 200]) } else { random.between(1, 4) };
-    let mut script = Script::new(bytes);
-    if good && random.once_in(3) {
+/// This many records, fewer if they grow too long, under this catalogue; at the end
+/// the published list and the table.
+fn script(random: &mut Random, catalogue: Vec<u8>, records: usize) -> Script {
+    let mut script = Script::new(catalogue);
+    if random.once_in(3) {
         load_record(random, &mut script);
     }
     for _ in 0..records {
@@ -222,6 +218,28 @@ pub fn any(random: &mut Random) -> Vec<u8> {
         }
     }
     script.bytes.extend([PUBLISH, PRINT_TABLE]);
+    script
+}
+
+/// An input with a legal catalogue and no bad record.
+pub fn good(random: &mut Random, records: usize) -> Vec<u8> {
+    let catalogue = catalogue::legal(random);
+    script(random, catalogue, records).bytes
+}
+
+/// Any input: few records under a damaged catalogue, many under a good one, a bad
+/// record last at times. One in a few hundred is as long as an input may be, or longer,
+/// filled up with short records whose lines are short.
+pub fn any(random: &mut Random) -> Vec<u8> {
+    let mut script = if random.once_in(5) {
+        let records = random.between(1, 4);
+        let catalogue = catalogue::damaged(random);
+        script(random, catalogue, records)
+    } else {
+        let records = random.pick(&[1, 10, 60, 200]);
+        let catalogue = catalogue::legal(random);
+        script(random, catalogue, records)
+    };
     if random.once_in(6) {
         bad_record(random, &mut script);
     }

@@ -6,17 +6,23 @@ pub use for_lists::{list_answer, ListBuffers};
 
 use crate::report::hex;
 use second_reader::random::Random;
+use std::sync::OnceLock;
 
 /// Bytes to be read, in an allocation of exactly their length.
 pub fn exact(bytes: Vec<u8>) -> Box<[u8]> {
     bytes.into_boxed_slice()
 }
 
-/// A buffer with the pattern of this seed.
+/// Longer than any buffer by more than a pattern's start can be.
+const PATTERN: usize = 1 << 16;
+const PATTERN_STARTS: u64 = 1 << 15;
+
+/// A buffer with the pattern of this seed: a part of one stretch of random bytes.
 pub fn patterned(length: usize, seed: u64) -> Box<[u8]> {
-    let mut buffer = vec![0; length].into_boxed_slice();
-    Random::new(seed).fill(&mut buffer);
-    buffer
+    static STRETCH: OnceLock<Vec<u8>> = OnceLock::new();
+    let stretch = STRETCH.get_or_init(|| Random::new(0).bytes(PATTERN));
+    let start = (seed % PATTERN_STARTS) as usize;
+    Box::from(&stretch[start..start + length])
 }
 
 /// Where two buffers first differ, with the bytes there.

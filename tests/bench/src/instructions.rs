@@ -1,0 +1,119 @@
+//! Instructions as callgrind counts them.
+
+use second_reader::generate::{list, replay};
+use second_reader::list::LIST_LIMIT;
+use second_reader::random::Random;
+use second_reader::replay::replay_output;
+use second_reader::stream::{run_output, RUN_LIMIT};
+use std::io::Read;
+use std::path::{Path, PathBuf};
+use std::process::{Command, ExitCode, Stdio};
+
+const TIMES: u64 = 50;
+
+/// Instructions for one call of the second reader and of the archive.
+pub fn of_case(name: &str) -> Result<(f64, f64), String> {
+    Ok((of_side(name, "reader")?, of_side(name, "archive")?))
+}
+
+fn of_side(name: &str, side: &str) -> Result<f64, String> {
+    let mut command = Command::new("valgrind");
+    command
+        .args(["--tool=callgrind", "--callgrind-out-file=/dev/null"])
+        .arg("--toggle-collect=bench_measured")
+        .arg(std::env::current_exe().map_err(|error| error.to_string())?)
+        .args(["--one", name, side, &TIMES.to_string()]);
+    Ok(collected(&mut command)? as f64 / TIMES as f64)
+}
+
+/// Runs valgrind and takes its count from the line `Collected : N`.
+fn collected(command: &mut Command) -> Result<u64, String> {
+    let output = command
+        .stdout(Stdio::null())
+        .stderr(Stdio::piped())
+        .output()
+        .map_err(|error| format!("valgrind: {error}"))?;
+    let text = String::from_utf8_lossy(&output.stderr);
+    text.lines()
+        .find_map(|line| line.split("Collected : ").nth(1))
+        .and_then(|count| count.split_whitespace().next()?.parse().ok())
+        .ok_or_else(|| format!("callgrind gave no count: {}", output.status))
+}
+
+/// The second reader in the place of a program.
+pub fn as_program(name: &str) -> ExitCode {
+    let mut input = Vec::new();
+    if std::io::stdin().read_to_end(&mut input).is_err() {
+        return ExitCode::FAILURE;
+    }
+    match name {
+        "run" => print!("{}", run_output(&input)),
+        "replay" => print!("{}", replay_output(&input)),
+        _ => return ExitCode::from(2),
+    }
+    ExitCode::SUCCESS
+}
+
+/// The folder of the programs, as the comparison of answers finds it.
+fn programs() -> PathBuf {
+    match std::env::var_os("CINDER_BIN_DIR") {
+        Some(named) => PathBuf::from(named),
+        None => Path::new(env!("CARGO_MANIFEST_DIR")).join("../../target/bin"),
+    }
+}
+
+/// The programs on one long input each, less what they take on the shortest one.
+pub fn of_programs() {
+    println!("{:<24} {:>5}  {:>14} {:>14} {:>6}", "program", "bytes", "reader ins", "ins", "ratio");
+    let mut random = Random::new(1);
+    let mut lists = Vec::new();
+    while lists.len() < RUN_LIMIT - LIST_LIMIT {
+        lists.extend(list::image(&list::legal(&mut random)));
+    }
+    let script = replay::good(&mut random, 400);
+    of_program("run", &lists, &[]);
+    of_program("replay", &script, &[3, 0, 0, 0, 0]);
+}
+
+fn of_program(name: &str, long: &[u8], short: &[u8]) {
+    let program = programs().join(name);
+    if !program.is_file() {
+        println!("{name:<24} {:>5}  not built", long.len());
+        return;
+    }
+    let counted = || -> Result<(f64, f64), String> {
+        let reader = std::env::current_exe().map_err(|error| error.to_string())?;
+        let reader = |input: &[u8]| on_input(Command::new("valgrind"), &reader, &["--as", name], input);
+        let product = |input: &[u8]| on_input(Command::new("valgrind"), &program, &[], input);
+        Ok((reader(long)? - reader(short)?, product(long)? - product(short)?))
+    };
+    match counted() {
+        Ok((reader, product)) => println!(
+            "{name:<24} {:>5}  {reader:>14} {product:>14} {:>6.2}",
+            long.len(),
+            product / reader
+        ),
+        Err(message) => println!("{name:<24} {message}"),
+    }
+}
+
+/// The instructions of a whole process on this standard input, which goes by a file.
+fn on_input(
+    mut valgrind: Command,
+    program: &Path,
+    words: &[&str],
+    input: &[u8],
+) -> Result<f64, String> {
+    let name = format!("bench-input-{}", std::process::id());
+    let file = std::env::temp_dir().join(name);
+    let told = |error: std::io::Error| error.to_string();
+    std::fs::write(&file, input).map_err(told)?;
+    valgrind
+        .args(["--tool=callgrind", "--callgrind-out-file=/dev/null"])
+        .arg(program)
+        .args(words)
+        .stdin(std::fs::File::open(&file).map_err(told)?);
+    let count = collected(&mut valgrind);
+    std::fs::remove_file(&file).map_err(told)?;
+    Ok(count? as f64)
+}
