@@ -9,7 +9,9 @@ fn main() {
     println!("cargo:rerun-if-changed=build.rs");
     let folder = match env::var_os("CINDER_ARCHIVE_DIR") {
         Some(named) => PathBuf::from(named),
-        None => Path::new(&env::var_os("CARGO_MANIFEST_DIR").unwrap()).join("../../target/staticlib"),
+        None => {
+            Path::new(&env::var_os("CARGO_MANIFEST_DIR").unwrap()).join("../../target/staticlib")
+        }
     };
     let archive = folder.join("libdisplay.a");
     if !archive.is_file() {

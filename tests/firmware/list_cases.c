@@ -34,6 +34,8 @@ const struct list_case list_cases[] = {
       {4, 0, 3}, {12, 3, 2}}, "ABC\0\377"},
     {"two typed lists of one int", 0, 0, 32, 5, 8, 0, 0, {256, 2, 257, 1, 5, 257, 1, 5}, NULL,
      {{256, 2, 0}, {256, 1, 0}, {1, 5, 0}, {256, 1, 0}, {1, 5, 0}}, NULL},
+    {"int, vocab, int", 0, 0, 32, 4, 8, 0, 0, {256, 3, 1, 5, 9, 5, 1, 5}, NULL,
+     {{256, 3, 0}, {1, 5, 0}, {9, 5, 0}, {1, 5, 0}}, NULL},
     {"empty blob", 0, 0, 12, 2, 3, 0, 0, {268, 1, 0}, NULL, {{256, 1, 0}, {12, 0, 0}}, NULL},
     {"empty string", 0, 0, 13, 2, 3, 2, 0, {260, 1, 1}, "\0\7", {{256, 1, 0}, {4, 0, 0}}, NULL},
     /* Offsets of faults. */
@@ -49,6 +51,8 @@ const struct list_case list_cases[] = {
     {"inner list at fault", FAILS(24, 8), 7, 0, 0, {256, 2, 256, 1, 1, 5, 7}, NO_TAIL},
     {"inner typed list of 0", FAILS(24, 8), 4, 0, 0, {256, 2, 265, 0}, NO_TAIL},
     {"unknown element", FAILS(26, 8), 3, 0, 0, {256, 1, 7}, NO_TAIL},
+    {"unknown typed list", FAILS(22, 0), 3, 0, 0, {261, 1, 5}, NO_TAIL},
+    {"unknown typed list within", FAILS(26, 8), 5, 0, 0, {256, 1, 261, 1, 5}, NO_TAIL},
     {"unknown element at depth 8", FAILS(26, 64), 17, 0, 0,
      {256, 1, 256, 1, 256, 1, 256, 1, 256, 1, 256, 1, 256, 1, 256, 1, 512}, NO_TAIL},
     {"string length 0", FAILS(25, 8), 3, 0, 0, {260, 1, 0}, NO_TAIL},

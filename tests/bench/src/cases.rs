@@ -132,7 +132,7 @@ pub fn lists() -> Vec<(&'static str, Vec<u8>)> {
         ("list-nested", image(&nested)),
         ("list-nested-full", image(&deep)),
         ("list-published-full", image(&published())),
-        ("list-refused-at-the-end", {
+        ("list-error-at-the-end", {
             let mut bytes = image(&untyped);
             bytes[4088..4092].copy_from_slice(&7_u32.to_le_bytes());
             bytes

@@ -83,7 +83,8 @@ fn of_program(name: &str, long: &[u8], short: &[u8]) {
     }
     let counted = || -> Result<(f64, f64), String> {
         let reader = std::env::current_exe().map_err(|error| error.to_string())?;
-        let reader = |input: &[u8]| on_input(Command::new("valgrind"), &reader, &["--as", name], input);
+        let reader =
+            |input: &[u8]| on_input(Command::new("valgrind"), &reader, &["--as", name], input);
         let product = |input: &[u8]| on_input(Command::new("valgrind"), &program, &[], input);
         Ok((reader(long)? - reader(short)?, product(long)? - product(short)?))
     };
@@ -106,14 +107,14 @@ fn on_input(
 ) -> Result<f64, String> {
     let name = format!("bench-input-{}", std::process::id());
     let file = std::env::temp_dir().join(name);
-    let told = |error: std::io::Error| error.to_string();
-    std::fs::write(&file, input).map_err(told)?;
+    let text = |error: std::io::Error| error.to_string();
+    std::fs::write(&file, input).map_err(text)?;
     valgrind
         .args(["--tool=callgrind", "--callgrind-out-file=/dev/null"])
         .arg(program)
         .args(words)
-        .stdin(std::fs::File::open(&file).map_err(told)?);
+        .stdin(std::fs::File::open(&file).map_err(text)?);
     let count = collected(&mut valgrind);
-    std::fs::remove_file(&file).map_err(told)?;
+    std::fs::remove_file(&file).map_err(text)?;
     Ok(count? as f64)
 }

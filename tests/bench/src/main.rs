@@ -97,6 +97,8 @@ fn one(name: &str, side: &str, times: &str) -> ExitCode {
     let side = Side::named(side);
     match (case, side, times.parse()) {
         (Some(mut case), Some(side), Ok(times)) => {
+            // The first call also finds functions of shared libraries.
+            case.call(side, 1);
             bench_measured(&mut case, side, times);
             ExitCode::SUCCESS
         }

@@ -309,7 +309,8 @@ impl Fill<'_> {
     fn floats(&mut self, count: usize) {
         let elements = &self.bytes[self.at..self.at + 2 * WORD * count];
         let rows = &mut self.rows[self.filled..self.filled + ROW_BYTES * count];
-        for (row, element) in rows.chunks_exact_mut(ROW_BYTES).zip(elements.chunks_exact(2 * WORD)) {
+        for (row, element) in rows.chunks_exact_mut(ROW_BYTES).zip(elements.chunks_exact(2 * WORD))
+        {
             write_row(row, Kind::Float.code(), word_at(element, 0), word_at(element, WORD));
         }
         self.at += 2 * WORD * count;

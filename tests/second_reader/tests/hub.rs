@@ -17,9 +17,8 @@ const CATALOGUE: [u8; 8] = [0x01, 0x07, 0x03, 0x03, 0x00, 0x04, 0x09, 0x06];
 const ACK_PACKET: [u8; 16] = [
     0x00, 0x0e, 0x0e, 0x02, 0x0a, 0x07, 0x06, 0x01, 0x02, 0x03, 0x04, 0x05, 0x06, 0x07, 0x08, 0x01,
 ];
-const DATA_PACKET: [u8; 15] = [
-    0x00, 0x0d, 0x04, 0x04, 0x09, 0x05, 0x01, 0x01, 0x02, 0x07, 0x01, 0x01, 0x03, 0x01, 0x0e,
-];
+const DATA_PACKET: [u8; 15] =
+    [0x00, 0x0d, 0x04, 0x04, 0x09, 0x05, 0x01, 0x01, 0x02, 0x07, 0x01, 0x01, 0x03, 0x01, 0x0e];
 
 fn packet_of(packet_type: u8, payload: &[u8]) -> Vec<u8> {
     packet::packet_of(&packet::message_of(packet_type, payload))
@@ -115,17 +114,13 @@ fn catalogues() {
     assert!(!good(&[2, 5, 0, 5, 0, 0, 0]));
     assert!(!good(&[2, 6, 0, 5, 0, 0, 0]));
     assert!(good(&[2, 5, 0, 6, 0, 0, 0]));
-    let of_types = |count: u8, parameters: u8| {
-        let mut bytes = vec![count];
-        (0..count).for_each(|number| bytes.extend([number, parameters]));
-        let sum = usize::from(count) * usize::from(parameters);
-        bytes.extend((sum as u16).to_le_bytes());
-        bytes.resize(bytes.len() + sum, 4);
-        bytes
-    };
-    assert!(good(&of_types(32, 32)));
-    assert!(!good(&of_types(33, 1)));
-    assert!(!good(&of_types(1, 33)));
+    let at_limits: Vec<bool> =
+        generate_catalogue::at_limits().iter().map(|bytes| good(bytes)).collect();
+    let expected = [
+        true, true, false, true, false, true, false, false, // numbers of types and parameters
+        false, false, true, false, // equal, falling, rising, falling
+    ];
+    assert_eq!(at_limits, expected);
 }
 
 #[test]
@@ -313,14 +308,12 @@ fn list_by_definition(catalogue: &Catalogue, table: &Table) -> Vec<Element> {
     let mut slots: Vec<&Slot> = table.slots.iter().filter(|slot| slot.taken).collect();
     slots.sort_by_key(|slot| slot.socket);
     let row = |slot: &&Slot| {
-        let mut row = vec![
-            Int(slot.socket.into()),
-            Int(slot.device_type.into()),
-            Blob(slot.uid.to_vec()),
-        ];
+        let mut row =
+            vec![Int(slot.socket.into()), Int(slot.device_type.into()), Blob(slot.uid.to_vec())];
         for index in 0..32 {
             if slot.present[index] {
-                let kind = catalogue.device(slot.device_type).unwrap().parameter(index).unwrap().kind;
+                let kind =
+                    catalogue.device(slot.device_type).unwrap().parameter(index).unwrap().kind;
                 let value = match kind {
                     ValueKind::Int | ValueKind::Bool => Int(slot.bits[index]),
                     ValueKind::Float => Float(double_of_single(slot.bits[index])),

@@ -91,8 +91,16 @@ fn bench_cases() {
 
     let bytes = two_lists();
     let rows = [
-        [256, 2, 0], [256, 3, 0], [1, 91, 0], [1, 92, 0], [1, 93, 0],
-        [256, 4, 0], [4, 0, 4], [4, 4, 2], [4, 6, 1], [4, 7, 9],
+        [256, 2, 0],
+        [256, 3, 0],
+        [1, 91, 0],
+        [1, 92, 0],
+        [1, 93, 0],
+        [256, 4, 0],
+        [4, 0, 4],
+        [4, 4, 2],
+        [4, 6, 1],
+        [4, 7, 9],
     ]
     .concat();
     let store = b"thisisagood list".to_vec();
@@ -383,8 +391,13 @@ fn what_is_accepted_writes_back() {
 
 #[test]
 fn every_kind_typed_and_untyped() {
-    let kinds =
-        [Int(5), Vocab(5), Float(0x3ff0_0000_0000_0000), String(b"five".to_vec()), Blob(vec![0, 5])];
+    let kinds = [
+        Int(5),
+        Vocab(5),
+        Float(0x3ff0_0000_0000_0000),
+        String(b"five".to_vec()),
+        Blob(vec![0, 5]),
+    ];
     for (first, one) in kinds.iter().enumerate() {
         let code = [257, 265, 266, 260, 268][first];
         let typed = generate::image(&[one.clone(), one.clone()]);

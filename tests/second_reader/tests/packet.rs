@@ -10,9 +10,8 @@ const PING_PACKET: [u8; 6] = [0x00, 0x04, 0x02, 0x01, 0x02, 0x01];
 const ACK_PACKET: [u8; 16] = [
     0x00, 0x0e, 0x0e, 0x02, 0x0a, 0x07, 0x06, 0x01, 0x02, 0x03, 0x04, 0x05, 0x06, 0x07, 0x08, 0x01,
 ];
-const DATA_PACKET: [u8; 15] = [
-    0x00, 0x0d, 0x04, 0x04, 0x09, 0x05, 0x01, 0x01, 0x02, 0x07, 0x01, 0x01, 0x03, 0x01, 0x0e,
-];
+const DATA_PACKET: [u8; 15] =
+    [0x00, 0x0d, 0x04, 0x04, 0x09, 0x05, 0x01, 0x01, 0x02, 0x07, 0x01, 0x01, 0x03, 0x01, 0x0e];
 
 /// Reads into a buffer of exact room and answers the consumed bytes and the message,
 /// after seeing that nothing else was written.
@@ -227,7 +226,8 @@ fn one_changed_byte_never_gives_a_good_message() {
     let mut random = Random::new(4);
     for (packet_type, low, high) in generate::TYPES {
         for length in [low, high] {
-            let message = generate::message_of(packet_type, &generate::payload(&mut random, length));
+            let message =
+                generate::message_of(packet_type, &generate::payload(&mut random, length));
             for at in 0..message.len() {
                 let mut changed = message.clone();
                 changed[at] ^= random.between(1, 255) as u8;

@@ -6,12 +6,12 @@ use second_reader::replay::replay_output;
 
 const CATALOGUE: [u8; 10] = [8, 0, 0x01, 0x07, 0x03, 0x03, 0x00, 0x04, 0x0d, 0x06];
 const ACK_RECORD: [u8; 20] = [
-    1, 3, 16, 0, 0x00, 0x0e, 0x0e, 0x02, 0x0a, 0x07, 0x06, 0x01, 0x02, 0x03, 0x04, 0x05, 0x06, 0x07,
-    0x08, 0x01,
+    1, 3, 16, 0, 0x00, 0x0e, 0x0e, 0x02, 0x0a, 0x07, 0x06, 0x01, 0x02, 0x03, 0x04, 0x05, 0x06,
+    0x07, 0x08, 0x01,
 ];
 const DATA_RECORD: [u8; 19] = [
-    1, 3, 15, 0, 0x00, 0x0d, 0x04, 0x04, 0x09, 0x05, 0x01, 0x01, 0x02, 0x07, 0x01, 0x01, 0x03, 0x01,
-    0x0e,
+    1, 3, 15, 0, 0x00, 0x0d, 0x04, 0x04, 0x09, 0x05, 0x01, 0x01, 0x02, 0x07, 0x01, 0x01, 0x03,
+    0x01, 0x0e,
 ];
 
 fn output(records: &[&[u8]]) -> String {
@@ -29,16 +29,30 @@ fn loading(slot: &[u8]) -> Vec<u8> {
 #[test]
 fn bench_case() {
     let posted = concat!(
-        "00010000", "01000000",
-        "00010000", "05000000",
-        "01000000", "03000000", "01000000", "07000000", "0c000000", "08000000", "0102030405060708",
-        "01010000", "02000000", "00000000", "07000000",
-        "01010000", "02000000", "02000000", "01000000"
+        "00010000",
+        "01000000",
+        "00010000",
+        "05000000",
+        "01000000",
+        "03000000",
+        "01000000",
+        "07000000",
+        "0c000000",
+        "08000000",
+        "0102030405060708",
+        "01010000",
+        "02000000",
+        "00000000",
+        "07000000",
+        "01010000",
+        "02000000",
+        "02000000",
+        "01000000"
     );
     let reads: [&[u8]; 4] = [&[4, 3, 0], &[4, 3, 1], &[4, 3, 2], &[4, 3, 200]];
-    let printed = output(&[&ACK_RECORD, &DATA_RECORD, &[3], reads[0], reads[1], reads[2], reads[3]]);
-    let expected =
-        format!("took 16\ntook 15\nposted 80 {posted}\nint 7\nabsent\nflag 1\nabsent\n");
+    let printed =
+        output(&[&ACK_RECORD, &DATA_RECORD, &[3], reads[0], reads[1], reads[2], reads[3]]);
+    let expected = format!("took 16\ntook 15\nposted 80 {posted}\nint 7\nabsent\nflag 1\nabsent\n");
     assert_eq!(printed, expected);
 }
 
@@ -51,7 +65,10 @@ fn lines_of_each_record() {
     assert_eq!(output(&[&ACK_RECORD, &[2, 3], &[2, 3]]), "took 16\nleft\nrefused 15\n");
     assert_eq!(output(&[&[1, 3, 0, 0]]), "refused 1\n");
     assert_eq!(output(&[&[6]]), format!("table {}\n", "00".repeat(688)));
-    assert_eq!(replay_output(&[1, 0, 9, 3, 6]), format!("refused 11\ntable {}\n", "00".repeat(688)));
+    assert_eq!(
+        replay_output(&[1, 0, 9, 3, 6]),
+        format!("refused 11\ntable {}\n", "00".repeat(688))
+    );
 }
 
 #[test]
@@ -75,7 +92,8 @@ fn loaded_tables() {
     let printed = output(&[&loading(&taken), &[2, 4], &[6]]);
     assert_eq!(printed, format!("loaded\nleft\ntable {}\n", "00".repeat(688)));
     // An empty slot with a year: loaded, printed, and refused by every other call.
-    let printed = output(&[&loading(&[0, 0, 0, 1]), &[3], &[2, 0], &[4, 0, 0], &[1, 0, 0, 0], &[6]]);
+    let printed =
+        output(&[&loading(&[0, 0, 0, 1]), &[3], &[2, 0], &[4, 0, 0], &[1, 0, 0, 0], &[6]]);
     let table = format!("00000001{}", "00".repeat(684));
     assert_eq!(
         printed,
@@ -90,7 +108,8 @@ fn loaded_tables() {
 
 #[test]
 fn bad_records() {
-    for record in [&[0][..], &[7], &[255], &[1], &[1, 3], &[1, 3, 1], &[1, 3, 1, 0], &[2], &[4, 3]] {
+    for record in [&[0][..], &[7], &[255], &[1], &[1, 3], &[1, 3, 1], &[1, 3, 1, 0], &[2], &[4, 3]]
+    {
         assert_eq!(output(&[&[2, 3], record]), "refused 15\nbad record 2\n", "{record:?}");
     }
     assert_eq!(replay_output(&[0; 65_537]), "too long\n");

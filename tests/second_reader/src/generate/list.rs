@@ -233,7 +233,8 @@ pub fn around_the_limit(random: &mut Random) -> Vec<Element> {
     let inner = tree(random, DEPTH_LIMIT - 1, room);
     let target = random.between(LIST_LIMIT - 6, LIST_LIMIT + 9);
     let rest = target - image(&inner).len() - 16;
-    let last = if random.once_in(2) { Blob(random.bytes(rest)) } else { String(text(random, rest - 1)) };
+    let last =
+        if random.once_in(2) { Blob(random.bytes(rest)) } else { String(text(random, rest - 1)) };
     let mut outer = vec![List(inner), last];
     match random.below(12) {
         0 => outer.push(Int(random.word())),
@@ -251,7 +252,8 @@ fn promising(random: &mut Random) -> Vec<u8> {
     put_word(code, &mut bytes);
     put_word(random.pick(&[2, 1022, 1023, 0x7fff_ffff, 0x8000_0000, 0xffff_ffff]), &mut bytes);
     let length = random.pick(&[0, 3, 4, 100, 4087, 4088, 4089, 5000]);
-    let filler = random.pick(&[[1, 0, 0, 0], [9, 0, 0, 0], [12, 0, 0, 0], [0, 0, 0, 0], [0, 1, 0, 0]]);
+    let filler =
+        random.pick(&[[1, 0, 0, 0], [9, 0, 0, 0], [12, 0, 0, 0], [0, 0, 0, 0], [0, 1, 0, 0]]);
     bytes.extend(filler.iter().cycle().take(length));
     if random.once_in(2) && length >= 8 {
         let at = random.between(8, bytes.len() - 1);

@@ -11,9 +11,8 @@ pub mod table;
 use crate::random::Random;
 
 /// Numbers that a damaged input is likely to be judged wrongly by.
-const TELLING_WORDS: [u32; 14] = [
-    0, 1, 4, 9, 10, 12, 256, 257, 260, 265, 512, 0x7fff_ffff, 0x8000_0000, 0xffff_ffff,
-];
+const TELLING_WORDS: [u32; 16] =
+    [0, 1, 4, 9, 10, 12, 256, 257, 260, 265, 266, 268, 512, 0x7fff_ffff, 0x8000_0000, 0xffff_ffff];
 
 /// Changes `bytes` in one way: a byte, a word, a cut, a byte taken out or put in, or
 /// bytes appended.

@@ -143,8 +143,7 @@ fn receive_record(random: &mut Random, script: &mut Script) {
 fn load_record(random: &mut Random, script: &mut Script) {
     let catalogue = script.catalogue.clone();
     let Ok(parsed) = Catalogue::parse(&catalogue) else { return };
-    let mut table =
-        if random.once_in(3) { script.table } else { table::lawful(random, &parsed) };
+    let mut table = if random.once_in(3) { script.table } else { table::lawful(random, &parsed) };
     if random.once_in(2) {
         table::spoil(random, &mut table);
     }

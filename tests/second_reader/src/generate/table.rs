@@ -7,8 +7,21 @@ use crate::table::{Slot, Table, SLOTS, SOCKETS, UID_BYTES};
 /// Bits of singles that a conversion is likely to get wrong: zeros, the smallest and
 /// largest, infinities, quiet and signalling NaNs.
 const SINGLES: [u32; 16] = [
-    0, 0x8000_0000, 1, 0x8000_0001, 0x007f_ffff, 0x0080_0000, 0x3f80_0000, 0xc048_f5c3,
-    0x7f7f_ffff, 0xff7f_ffff, 0x7f80_0000, 0xff80_0000, 0x7f80_0001, 0xff80_0001, 0x7fc0_0000,
+    0,
+    0x8000_0000,
+    1,
+    0x8000_0001,
+    0x007f_ffff,
+    0x0080_0000,
+    0x3f80_0000,
+    0xc048_f5c3,
+    0x7f7f_ffff,
+    0xff7f_ffff,
+    0x7f80_0000,
+    0xff80_0000,
+    0x7f80_0001,
+    0xff80_0001,
+    0x7fc0_0000,
     0xffff_ffff,
 ];
 
@@ -70,9 +83,10 @@ pub fn lawful(random: &mut Random, catalogue: &Catalogue) -> Table {
     for at in 0..SLOTS {
         let socket = random.below(usize::from(SOCKETS)) as u8;
         let slot = taken_slot(random, catalogue, socket);
-        let free = table.slots.iter().all(|other| {
-            !other.taken || (other.socket != slot.socket && other.uid != slot.uid)
-        });
+        let free = table
+            .slots
+            .iter()
+            .all(|other| !other.taken || (other.socket != slot.socket && other.uid != slot.uid));
         if free && !(fewest_taken && random.once_in(2)) {
             table.slots[at] = slot;
         }

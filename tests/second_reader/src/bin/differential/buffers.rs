@@ -33,7 +33,7 @@ fn first_difference(expected: &[u8], found: &[u8]) -> Option<(usize, String, Str
 }
 
 /// Names the first byte at which the two sides left a buffer differently.
-pub fn told(name: &str, expected: &[u8], found: &[u8]) -> (String, String) {
+pub fn describe(name: &str, expected: &[u8], found: &[u8]) -> (String, String) {
     match first_difference(expected, found) {
         None => (String::new(), String::new()),
         Some((at, left, right)) => {
@@ -44,7 +44,7 @@ pub fn told(name: &str, expected: &[u8], found: &[u8]) -> (String, String) {
 
 #[cfg(any(feature = "list", feature = "stream"))]
 mod for_lists {
-    use super::{patterned, told};
+    use super::{describe, patterned};
     use crate::report::{hex, Difference};
     use archive::ListResult;
     use second_reader::list::{Decoded, ListError};
@@ -83,8 +83,8 @@ mod for_lists {
             (expected, found): (ListResult, ListResult),
             found_buffers: &ListBuffers,
         ) -> Difference {
-            let (left_rows, right_rows) = told("rows", &self.rows, &found_buffers.rows);
-            let (left_store, right_store) = told("store", &self.store, &found_buffers.store);
+            let (left_rows, right_rows) = describe("rows", &self.rows, &found_buffers.rows);
+            let (left_store, right_store) = describe("store", &self.store, &found_buffers.store);
             let mut case = vec![
                 ("bytes", hex(bytes)),
                 ("rows length", self.rows.len().to_string()),

@@ -14,7 +14,8 @@ fn check(bytes: Vec<u8>, rows: usize, store: usize, pattern: u64) -> Result<(), 
     let bytes = exact(bytes);
     let mut expected_buffers = ListBuffers::new(rows, store, pattern);
     let mut found_buffers = ListBuffers::new(rows, store, pattern);
-    let expected = list_answer(decode(&bytes, &mut expected_buffers.rows, &mut expected_buffers.store));
+    let expected =
+        list_answer(decode(&bytes, &mut expected_buffers.rows, &mut expected_buffers.store));
     let found = list_decode(&bytes, &mut found_buffers.rows, &mut found_buffers.store);
     count_answer(expected.error);
     if expected == found && expected_buffers == found_buffers {
@@ -37,8 +38,26 @@ fn random_case(random: &mut Random) -> Result<u64, Difference> {
 }
 
 /// Numbers that stand in the place of each word of a list in turn.
-const WORDS: [u32; 16] = [
-    0, 1, 4, 9, 10, 12, 255, 256, 257, 260, 265, 512, 0x7fff_ffff, 0x8000_0000, 0xffff_ffff, 4096,
+const WORDS: [u32; 19] = [
+    0,
+    1,
+    2,
+    4,
+    9,
+    10,
+    12,
+    255,
+    256,
+    257,
+    260,
+    265,
+    266,
+    268,
+    512,
+    4096,
+    0x7fff_ffff,
+    0x8000_0000,
+    0xffff_ffff,
 ];
 
 /// A few hundred lists of every shape: buffers of each size, cut at every byte, each

@@ -1,6 +1,6 @@
 //! `cinder_packet_decode` against the second reader.
 
-use crate::buffers::{exact, patterned, told};
+use crate::buffers::{describe, exact, patterned};
 use crate::report::{count_answer, hex, Difference, Section};
 use archive::{packet_decode, PacketResult};
 use second_reader::generate;
@@ -28,7 +28,7 @@ fn check(bytes: Vec<u8>, message_length: usize, pattern: u64) -> Result<(), Diff
     if expected == found && expected_message == found_message {
         return Ok(());
     }
-    let (left, right) = told("message", &expected_message, &found_message);
+    let (left, right) = describe("message", &expected_message, &found_message);
     Err(Difference {
         case: vec![
             ("bytes", hex(&bytes)),

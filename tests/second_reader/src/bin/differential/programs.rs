@@ -3,10 +3,13 @@
 
 use crate::options;
 use crate::report::{count_answer, hex, Difference, Section};
-use second_reader::generate::{list, replay as generate_replay, stream as generate_stream};
+use second_reader::generate::{
+    catalogue, list, replay as generate_replay, stream as generate_stream,
+};
 use second_reader::random::Random;
-use second_reader::replay::{replay_output, REPLAY_LIMIT};
+use second_reader::replay::{replay_output, DETACH, PUBLISH, REPLAY_LIMIT};
 use second_reader::stream::{run_output, RUN_LIMIT};
+use second_reader::table::TABLE_BYTES;
 use std::io::Write;
 use std::path::PathBuf;
 use std::process::{Command, Output, Stdio};
@@ -126,23 +129,46 @@ fn replay_case(random: &mut Random) -> Result<u64, Difference> {
     check_replay(generate_replay::any(random))
 }
 
-/// An empty catalogue, sizes around the limit, and each record alone and cut short.
+/// Sizes around the limit, each record alone and cut short, and catalogues.
 fn replay_enumerated() -> Result<u64, Difference> {
     const EMPTY: [u8; 5] = [3, 0, 0, 0, 0];
     let mut checks = check_replay(EMPTY.to_vec())?;
     for length in [REPLAY_LIMIT - 1, REPLAY_LIMIT, REPLAY_LIMIT + 1, 2 * REPLAY_LIMIT] {
         // Many short records, then one cut short where the length is even.
         let mut input = EMPTY.to_vec();
-        input.resize(length, 2);
+        input.resize(length, DETACH);
         checks += check_replay(input)?;
     }
-    for code in 0..=255 {
-        for behind in [0, 1, 2, 3, 688] {
+    for code in 0..=9 {
+        for behind in [0, 1, 2, 3, TABLE_BYTES - 1, TABLE_BYTES] {
             let mut input = EMPTY.to_vec();
             input.push(code);
             input.resize(input.len() + behind, 0);
             checks += check_replay(input)?;
         }
+    }
+    Ok(checks + replay_catalogues()?)
+}
+
+/// Whether each catalogue is taken: those at the limits, and the bench cases' one cut
+/// at every byte and with each byte changed.
+fn replay_catalogues() -> Result<u64, Difference> {
+    const BENCH: [u8; 8] = [0x01, 0x07, 0x03, 0x03, 0x00, 0x04, 0x09, 0x06];
+    let mut catalogues = catalogue::at_limits();
+    catalogues.extend((0..=BENCH.len()).map(|length| BENCH[..length].to_vec()));
+    for at in 0..BENCH.len() {
+        for value in [0, 1, 2, 3, 4, 7, 8, 12, 15, 16, 32, 33, 128, 255] {
+            let mut changed = BENCH.to_vec();
+            changed[at] = value;
+            catalogues.push(changed);
+        }
+    }
+    let mut checks = 0;
+    for bytes in catalogues {
+        let mut input = Vec::from((bytes.len() as u16).to_le_bytes());
+        input.extend(bytes);
+        input.push(PUBLISH);
+        checks += check_replay(input)?;
     }
     Ok(checks)
 }

@@ -40,7 +40,13 @@ fn check(
     if expected == found && expected_buffers == found_buffers {
         return Ok(expected.consumed);
     }
-    Err(expected_buffers.difference(bytes, pattern, Some(offset), (expected, found), &found_buffers))
+    Err(expected_buffers.difference(
+        bytes,
+        pattern,
+        Some(offset),
+        (expected, found),
+        &found_buffers,
+    ))
 }
 
 fn lengths(random: &mut Random) -> (usize, usize) {
