@@ -1,5 +1,5 @@
-//! Inputs for the replay program: a catalogue and records that follow a table along,
-//! so that most calls reach what they are for.
+//! Inputs for the replay program: a catalogue and records, each chosen by the table as
+//! the records before leave it, so that most calls pass the first tests.
 
 use super::{catalogue, damage, packet, table};
 use crate::catalogue::{Catalogue, ValueKind, PARAMETER_LIMIT};

@@ -133,7 +133,7 @@ fn for_a_time(
 ) -> Result<String, Failure> {
     let started = Instant::now();
     let mut next = options.first;
-    let mut told = 0;
+    let mut last_minute = 0;
     let mut cases = 0;
     while started.elapsed() < time {
         for (section, part) in sections {
@@ -144,8 +144,8 @@ fn for_a_time(
         }
         next += 1;
         let minute = started.elapsed().as_secs() / 60;
-        if minute != told {
-            told = minute;
+        if minute != last_minute {
+            last_minute = minute;
             println!("{minute} min: {cases} cases");
         }
     }
