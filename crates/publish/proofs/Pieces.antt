@@ -1,0 +1,188 @@
+-- The bytes of the pieces of the published list.
+use Prim.Native.Nat.{ℕ, zero, suc, _+_, _-_, _/_, _%_, _≤_, _<_}
+use mathlib.Core.Path.{_≡_, refl, sym, ap, subst, _∙_}
+use mathlib.Core.Bool.{true, false}
+use mathlib.Core.List.{List, [], _++_, append-nil}
+use native.Mathlib.Omega.{arith}
+use native.Mathlib.Nat.{zero-add}
+use lib.ListN.{length, length-append}
+use lib.Seq.{sets}
+use Rattle.wire.specs.Area.{over}
+use Rattle.wire.specs.Number.{leBytes}
+use Rattle.list.specs.Kind.{listCode, typedCode, codeOf}
+use Rattle.list.specs.declared.Kind.the-variants as kinds
+use Rattle.list.specs.Tree as tree
+use Rattle.list.specs.Tree.{Elements, none, value, list, int, blob, count}
+use Rattle.list.specs.Bytes.{number, codeFor, listCodeOf, elementBytes, listBytes}
+use Rattle.list.proofs.Codes.{CodeIs, mixed, typed, code-is, code-none}
+use Rattle.catalogue.specs.Lookup.{parameterOf}
+use Rattle.catalogue.specs.declared.Parameter.{Parameter}
+use Rattle.value.specs.Meaning.{valueOf}
+use Rattle.value.specs.declared.Value.{Value}
+use Rattle.table.specs.Slots.{paramCount, socketCount, slotAt, slotOf}
+use Rattle.table.specs.Lawful.{presentAt, bitsAt}
+use Rattle.table.specs.declared.Slot.{Slot}
+use Rattle.table.specs.declared.Table.{Table}
+use Rattle.table.specs.declared.Place.{Place}
+use Rattle.table.specs.declared.Place.the-variants.{At, Nowhere}
+use Rattle.publish.specs.Put.{Put, front}
+use Rattle.publish.specs.Published.{double, elementOf, heldValue, pair, parametersFrom, device, rowBefore, devicesFrom, published}
+use Rattle.publish.proofs.Stores.{put-as, put-before, sets-front}
+
+-- a parameter that becomes a NetInt: a typed list
+pub int-pair : (p x : ℕ) → elementBytes listCode (list (pair p (int x)) none) ≡ (number (typedCode kinds.Int) ++ number 2) ++ (number p ++ number x)
+unfolding codeFor
+int-pair p x = refl
+
+-- a parameter that becomes a NetFloat: both elements follow their codes
+pub double-pair :
+    (p x : ℕ) →
+    elementBytes listCode (list (pair p (double x)) none) ≡
+    (number listCode ++ number 2) ++
+    ((number (codeOf kinds.Int) ++ number p) ++ (number (codeOf kinds.Float) ++ (number (x % 0x1_0000_0000) ++ number (x / 0x1_0000_0000))))
+unfolding codeFor
+double-pair p x = refl
+
+pub int-size : (p x : ℕ) (v : tree.Value) → v ≡ int x → length (elementBytes listCode (list (pair p v) none)) ≡ 16
+int-size p x v e = ap (λ (u : tree.Value). length (elementBytes listCode (list (pair p u) none))) e ∙ ap length (int-pair p x)
+
+pub double-size : (p x : ℕ) (v : tree.Value) → v ≡ double x → length (elementBytes listCode (list (pair p v) none)) ≡ 28
+double-size p x v e = ap (λ (u : tree.Value). length (elementBytes listCode (list (pair p u) none))) e ∙ ap length (double-pair p x)
+
+pub put-value :
+    {l m : List ℕ} {at end : ℕ} (p : ℕ) (u v : tree.Value) → u ≡ v → Put l at (elementBytes listCode (list (pair p u) none)) m end →
+    Put l at (elementBytes listCode (list (pair p v) none)) m end
+put-value {l} {m} {at} {end} p u v e h = subst (λ (w : tree.Value). Put l at (elementBytes listCode (list (pair p w) none)) m end) e h
+
+-- a list's bytes, then those of the elements behind it
+pub list-bytes :
+    (inner rest : Elements) → elementBytes listCode (list inner rest) ≡ elementBytes listCode (list inner none) ++ elementBytes listCode rest
+list-bytes inner rest =
+    let i = elementBytes (listCodeOf inner) inner in
+    let r = elementBytes listCode rest in
+    ap (λ (z : List ℕ). number (listCodeOf inner) ++ (number (count inner) ++ z))
+    (ap (λ (z : List ℕ). z ++ r) (sym (append-nil i)))
+
+-- a list of a number, another and a blob, and more: no kind is common to all
+pub row-code : (a b : ℕ) (bs : List ℕ) (es : Elements) → listCodeOf (value (int a) (value (int b) (value (blob bs) es))) ≡ listCode
+row-code a b bs es = go (code-is (value (int a) (value (int b) (value (blob bs) es))))
+  where
+    go : CodeIs (value (int a) (value (int b) (value (blob bs) es))) → listCodeOf (value (int a) (value (int b) (value (blob bs) es))) ≡ listCode
+    go (mixed e) = e
+    go (typed k e a) = let q : kinds.Int ≡ kinds.Blob = a .0 ∙ sym (a .1 .1 .0) in absurd (let z : _≡_ {A = ℕ} 0 1 = cc in omega arith)
+
+pub device-bytes :
+    (c : List ℕ) (s : Slot) →
+    elementBytes listCode (list (device c s) none) ≡
+    front s (count (parametersFrom paramCount c s 0)) ++ elementBytes listCode (parametersFrom paramCount c s 0)
+unfolding device front
+device-bytes c s =
+    let ps = parametersFrom paramCount c s 0 in
+    let row = value (int (s .socket)) (value (int (s .device)) (value (blob (leBytes 8 (s .uid))) ps)) in
+    let n : count row ≡ 3 + count ps = omega arith in
+    ap (λ (code : ℕ). number code ++ (number (count row) ++ (elementBytes code row ++ []))) (row-code (s .socket) (s .device) (leBytes 8 (s .uid)) ps)
+    ∙ ap (λ (k : ℕ). number listCode ++ (number k ++ (elementBytes listCode row ++ []))) n
+    ∙ ap (λ (bytes : List ℕ). front s (count ps) ++ bytes) (append-nil (elementBytes listCode ps))
+
+front-size : (s : Slot) (held : ℕ) → length (front s held) ≡ 40
+unfolding front
+front-size s held = refl
+
+pub device-size :
+    (c : List ℕ) (s : Slot) →
+    length (elementBytes listCode (list (device c s) none)) ≡ 40 + length (elementBytes listCode (parametersFrom paramCount c s 0))
+device-size c s =
+    let ps = parametersFrom paramCount c s 0 in
+    ap length (device-bytes c s) ∙ length-append (front s (count ps)) (elementBytes listCode ps)
+    ∙ ap (λ (n : ℕ). n + length (elementBytes listCode ps)) (front-size s (count ps))
+
+-- the parameters are put first, and the front of the row before them
+pub device-put :
+    {l m n : List ℕ} {at end held : ℕ} (c : List ℕ) (s : Slot) →
+    Put l (at + 40) (elementBytes listCode (parametersFrom paramCount c s 0)) m end → held ≡ count (parametersFrom paramCount c s 0) →
+    n ≡ sets m at (front s held) → Put l at (elementBytes listCode (list (device c s) none)) n end
+device-put {l} {m} {n} {at} {end} {held} c s p h e =
+    let ps = parametersFrom paramCount c s 0 in
+    let size : at + 40 ≡ at + length (front s (count ps)) = ap (λ (k : ℕ). at + k) (sym (front-size s (count ps))) in
+    put-as (sym (device-bytes c s))
+    (put-before l at (at + 40) (front s (count ps)) (elementBytes listCode ps) size p (e ∙ ap (λ (k : ℕ). sets m at (front s k)) h))
+
+-- the value that value_of answers for a parameter's kind is the one that is held
+pub held-is :
+    (c : List ℕ) (s : Slot) (p : ℕ) {q : Parameter} {v : Value} → q ≡ parameterOf c (s .device) p → v ≡ valueOf (q .kind) (bitsAt s p) →
+    v ≡ heldValue c s p
+held-is c s p e f = f ∙ ap (λ (x : Parameter). valueOf (x .kind) (bitsAt s p)) e
+
+-- the parameters from p on: the first is held, or it is not
+pub parameters-held :
+    (c : List ℕ) (s : Slot) (p : ℕ) → p < paramCount → presentAt s p ≡ true →
+    parametersFrom (paramCount - p) c s p ≡ list (pair p (elementOf (heldValue c s p))) (parametersFrom (paramCount - (p + 1)) c s (p + 1))
+unfolding parametersFrom
+parameters-held c s p h e = let n : paramCount - p ≡ suc (paramCount - (p + 1)) = omega arith in rw (n, e)
+
+pub parameters-absent :
+    (c : List ℕ) (s : Slot) (p : ℕ) → p < paramCount → presentAt s p ≡ false →
+    parametersFrom (paramCount - p) c s p ≡ parametersFrom (paramCount - (p + 1)) c s (p + 1)
+unfolding parametersFrom
+parameters-absent c s p h e = let n : paramCount - p ≡ suc (paramCount - (p + 1)) = omega arith in rw (n, e)
+
+pub parameters-end : (c : List ℕ) (s : Slot) (p : ℕ) → paramCount ≤ p → parametersFrom (paramCount - p) c s p ≡ none
+unfolding parametersFrom
+parameters-end c s p h = let n : paramCount - p ≡ 0 = omega arith in rw n
+
+-- the sockets from one on: it has a device, or it has none
+pub devices-at :
+    (c : List ℕ) (t : Table) (socket i : ℕ) → socket < socketCount → slotOf t socket ≡ At i →
+    devicesFrom (socketCount - socket) c t socket ≡ list (device c (slotAt t i)) (devicesFrom (socketCount - (socket + 1)) c t (socket + 1))
+unfolding devicesFrom rowBefore
+devices-at c t socket i h e = let n : socketCount - socket ≡ suc (socketCount - (socket + 1)) = omega arith in rw (n, e)
+
+pub devices-nowhere :
+    (c : List ℕ) (t : Table) (socket : ℕ) → socket < socketCount → slotOf t socket ≡ Nowhere →
+    devicesFrom (socketCount - socket) c t socket ≡ devicesFrom (socketCount - (socket + 1)) c t (socket + 1)
+unfolding devicesFrom rowBefore
+devices-nowhere c t socket h e = let n : socketCount - socket ≡ suc (socketCount - (socket + 1)) = omega arith in rw (n, e)
+
+pub devices-end : (c : List ℕ) (t : Table) (socket : ℕ) → socketCount ≤ socket → devicesFrom (socketCount - socket) c t socket ≡ none
+unfolding devicesFrom
+devices-end c t socket h = let n : socketCount - socket ≡ 0 = omega arith in rw n
+
+-- a list of lists carries no kind
+lists-code : (inner rest : Elements) → listCodeOf (list inner rest) ≡ listCode
+lists-code inner rest = go (code-is (list inner rest))
+  where
+    go : CodeIs (list inner rest) → listCodeOf (list inner rest) ≡ listCode
+    go (mixed e) = e
+    go (typed k e a) = absurd a
+
+devices-code : (n : ℕ) (c : List ℕ) (t : Table) (socket : ℕ) → listCodeOf (devicesFrom n c t socket) ≡ listCode
+unfolding devicesFrom rowBefore
+devices-code zero c t socket = code-none
+devices-code (suc n) c t socket = go (slotOf t socket) (devices-code n c t (socket + 1))
+  where
+    go : (p : Place) → listCodeOf (devicesFrom n c t (socket + 1)) ≡ listCode → listCodeOf (rowBefore c t p (devicesFrom n c t (socket + 1))) ≡ listCode
+    go Nowhere e = e
+    go (At i) e = lists-code (device c (slotAt t i)) (devicesFrom n c t (socket + 1))
+
+pub published-bytes :
+    (c : List ℕ) (t : Table) →
+    listBytes (published c t) ≡ (number listCode ++ number (count (published c t))) ++ elementBytes listCode (published c t)
+unfolding listBytes
+published-bytes c t =
+    ap (λ (code : ℕ). number code ++ (number (count (published c t)) ++ elementBytes code (published c t))) (devices-code socketCount c t 0)
+
+pub published-length : (c : List ℕ) (t : Table) → length (listBytes (published c t)) ≡ 8 + length (elementBytes listCode (published c t))
+published-length c t = ap length (published-bytes c t) ∙ omega arith
+
+-- the rows are put first, and the front of the list before them
+pub published-put :
+    {l m n : List ℕ} {end rows : ℕ} (c : List ℕ) (t : Table) → length (listBytes (published c t)) ≤ length l →
+    Put l 8 (elementBytes listCode (published c t)) m end → rows ≡ count (published c t) → n ≡ sets m 0 (number listCode ++ number rows) →
+    (n ≡ over (listBytes (published c t)) l) × (end ≡ length (listBytes (published c t)))
+published-put {l} {m} {n} {end} {rows} c t room p h e =
+    let es = published c t in
+    let q : Put l 0 (listBytes es) n end =
+    put-as (sym (published-bytes c t))
+    (put-before l 0 8 (number listCode ++ number (count es)) (elementBytes listCode es) refl p
+    (e ∙ ap (λ (k : ℕ). sets m 0 (number listCode ++ number k)) h)) in
+    (q .stored ∙ sets-front l (listBytes es) room, q .behind ∙ zero-add (length (listBytes es)))

@@ -1,0 +1,110 @@
+-- `publish::rows::put_parameters` meets its contract. Invariant: the parameters from p on, put behind what is there, give all of them.
+use Prim.Native.Nat.{_-_, _≤_, _<_}
+use mathlib.Core.Path.{ap}
+use mathlib.Core.Logic.{⊎-elim}
+use native.Mathlib.Omega.{arith}
+use borrow.Author.Needs.{needs}
+use Rattle.table.specs.Slots.{paramCount}
+use Rattle.table.specs.Lawful.{bitsAt}
+use Rattle.publish.specs.Published.{elementOf, parametersFrom}
+use Rattle.publish.proofs.Bits.{no-nan}
+use Rattle.publish.proofs.Pieces.{parameters-held, parameters-absent, parameters-end, put-value, held-is}
+use Rattle.publish.proofs.Loops.{Left, left-all, left-as, left-at, left-room, left-put, left-none}
+use Rattle.publish.proofs.rows.put_parameters.Statement.{statement}
+use Rattle.publish.proofs.rows.put_parameters.Tie as tie
+
+abbrev Inv-loop : tie.InvT-loop
+Inv-loop c buffer₀ at s device end₀ count₀ p₀ buffer end count p =
+    (p ≤ paramCount) × (count ≤ p) × Left buffer₀ at (parametersFrom paramCount c s 0) buffer end count (parametersFrom (paramCount - p) c s p)
+
+abbrev μ-loop : tie.MeasureT-loop
+μ-loop c buffer₀ at s device end₀ count₀ p₀ buffer end count p = paramCount - p
+
+loop-holds : tie.Need-loop-holds Inv-loop μ-loop
+loop-holds c = (omega arith, omega arith, left-all _ _ _)
+
+element-copy-out-if1 : tie.Need-element-copy-out-if1 Inv-loop μ-loop
+element-copy-out-if1 c = search needs
+
+find-parameter-requires : tie.Need-find-parameter-requires Inv-loop μ-loop
+find-parameter-requires c κs = search needs
+
+mul-value-of : tie.Need-mul-value-of Inv-loop μ-loop
+mul-value-of c = search needs
+
+element-copy-out-value-of : tie.Need-element-copy-out-value-of Inv-loop μ-loop
+element-copy-out-value-of c = search needs
+
+value-of-requires : tie.Need-value-of-requires Inv-loop μ-loop
+value-of-requires c κs = search needs
+
+cast-put-parameter : tie.Need-cast-put-parameter Inv-loop μ-loop
+cast-put-parameter c = search needs
+
+put-parameter-requires : tie.Need-put-parameter-requires Inv-loop μ-loop
+put-parameter-requires c κs =
+    let a = c .before .before .before .before .before .before .before .before .before .before .args in
+    let l = c .before .before .before .before .before .before .before .loop in
+    let q = c .before .before .before .find-parameter in
+    let e = c .before .value-of .ensures in
+    let v = held-is (a .c .now) (a .t2) (l .p) (q .ensures) e in (
+      rw e (no-nan (q .result .kind) (bitsAt (a .t2) (l .p))),
+      rw v (left-room (left-as (parameters-held (a .c .now) (a .t2) (l .p) (omega arith) (c .before .before .before .before .if1 .taken)) (l .inv .2)) (c .before .before .before .before .before .before .before .before .before .before .pre)),
+    )
+
+add-count : tie.Need-add-count Inv-loop μ-loop
+add-count c = search needs
+
+add-p : tie.Need-add-p Inv-loop μ-loop
+add-p c = search needs
+
+loop-less : tie.Need-loop-less Inv-loop μ-loop
+loop-less c = search needs
+
+loop-again : tie.Need-loop-again Inv-loop μ-loop
+loop-again c =
+    let a = c .before .before .before .before .before .before .args in
+    let l = c .before .before .before .loop in
+    let low : l .p < paramCount = omega arith in
+    let held = parameters-held (a .c .now) (a .t2) (l .p) low in
+    let absent = parameters-absent (a .c .now) (a .t2) (l .p) low in
+    ⊎-elim
+    (λ w. (
+      omega arith,
+      omega (arith, w .10, l .inv .1),
+      left-at (w .8) (w .9) (w .10) (left-put (left-as (held (w .0 .taken)) (l .inv .2))
+          (put-value (l .p) _ _ (ap elementOf (held-is (a .c .now) (a .t2) (l .p) (w .1 .ensures) (w .3 .ensures))) (w .5 .ensures))),
+    ))
+    (λ w. (omega arith, omega (arith, w .3, l .inv .1), left-at (w .1) (w .2) (w .3) (left-as (absent (w .0 .left)) (l .inv .2))))
+    (c .if1 .came)
+
+same-length : tie.Need-same-length Inv-loop μ-loop
+same-length c = search needs
+
+returns : tie.Need-returns Inv-loop μ-loop
+returns c =
+    let a = c .before .before .before .before .args in
+    let l = c .before .loop in
+    let r = left-none (left-as (parameters-end (a .c .now) (a .t2) (l .p) (omega arith)) (l .inv .2)) in
+    (r .0, r .1, omega (arith, l .inv .0, l .inv .1))
+
+pub put-parameters-spec : {M : Type 1} → statement M
+put-parameters-spec =
+    tie.close
+    (tie.spec
+    Inv-loop
+    μ-loop
+    loop-holds
+    element-copy-out-if1
+    find-parameter-requires
+    mul-value-of
+    element-copy-out-value-of
+    value-of-requires
+    cast-put-parameter
+    put-parameter-requires
+    add-count
+    add-p
+    loop-less
+    loop-again
+    same-length
+    returns)

@@ -1,0 +1,125 @@
+// The rows of the list. A list's code and count are written once its elements stand behind them and are counted.
+use super::parameter::put_parameter;
+use super::parameter::put_two;
+use list::Kind;
+use list::LIST_CODE;
+use table::PARAMS;
+use table::Place;
+use table::SOCKETS;
+use table::Slot;
+use table::Table;
+ghost use Prim.Native.Nat.{_+_, _≤_};
+ghost use mathlib.Core.Path.{_≡_};
+ghost use mathlib.Core.List.{_++_};
+ghost use lib.ListN.{length};
+ghost use lib.Seq.{sets};
+ghost use Rattle.wire.specs.Area.{over};
+ghost use Rattle.wire.specs.Number.{leBytes};
+ghost use Rattle.list.specs.Kind.{listCode, codeOf};
+ghost use Rattle.list.specs.declared.Kind.the-variants.{Blob};
+ghost use Rattle.list.specs.Tree.{none, list, count};
+ghost use Rattle.list.specs.Bytes.{number, elementBytes, listBytes};
+ghost use Rattle.table.specs.Slots.{paramCount};
+ghost use Rattle.publish.specs.Published.{parametersFrom, device, published};
+ghost use Rattle.publish.specs.Put.{Room, Put, front};
+
+// The bytes of a row before its parameters, and of the outer list before its rows.
+const ROW_FRONT: usize = 40;
+
+const LIST_FRONT: usize = 8;
+
+// The elements that every row has: socket, type and UID.
+const ROW_FIXED: u32 = 3;
+
+// The bytes of a UID.
+const UID_BYTES: u32 = 8;
+
+// The offset behind some elements, and how many they are.
+struct Extent {
+    end: usize,
+    count: u32,
+}
+
+// The held parameters of a device.
+fn put_parameters(c: &[u8], s: Slot, buffer: &mut [u8], at: usize) -> Extent
+    requires { ⌜ Room (now buffer) at (elementBytes listCode (parametersFrom paramCount (now c) s 0)) ⌝ }
+    ensures { λ r. ⌜ Put (now (buffer .entry)) at (elementBytes listCode (parametersFrom paramCount (now (c .entry)) s 0)) (now (buffer .exit)) (r .end)
+        × (r .count ≡ count (parametersFrom paramCount (now (c .entry)) s 0)) × (r .count ≤ 32) ⌝ }
+{
+    let device = s.device;
+    let mut end = at;
+    let mut count: u32 = 0;
+    let mut p: usize = 0;
+    while p < PARAMS {
+        if s.present[p] {
+            let kind = catalogue::find_parameter(c, device, p).kind;
+            let v = value::value_of(kind, s.bits[p]);
+            end = put_parameter(buffer, end, p as u32, v);
+            count += 1;
+        }
+        p += 1;
+    }
+    Extent { end, count }
+}
+
+// A UID: a blob of eight bytes, low byte first as they came.
+fn put_uid(buffer: &mut [u8], at: usize, uid: u64)
+    requires { ⌜ at + 16 ≤ length (now buffer) ⌝ }
+    ensures { λ _. ⌜ now (buffer .exit) ≡ sets (now (buffer .entry)) at (number (codeOf Blob) ++ (number 8 ++ leBytes 8 uid)) ⌝ }
+{
+    put_two(buffer, at, Kind::BLOB, UID_BYTES);
+    wire::put_u64(buffer, at + 8, uid);
+}
+
+// A device's row up to its parameters, of which `held` follow.
+fn put_front(buffer: &mut [u8], at: usize, s: Slot, held: u32)
+    requires { ⌜ (at + 40 ≤ length (now buffer)) × (held ≤ 32) ⌝ }
+    ensures { λ _. ⌜ now (buffer .exit) ≡ sets (now (buffer .entry)) at (front s held) ⌝ }
+{
+    put_two(buffer, at, LIST_CODE, ROW_FIXED + held);
+    put_two(buffer, at + 8, Kind::INT, s.socket as u32);
+    put_two(buffer, at + 16, Kind::INT, s.device as u32);
+    put_uid(buffer, at + 24, s.uid);
+}
+
+// A device's row.
+fn put_device(c: &[u8], s: Slot, buffer: &mut [u8], at: usize) -> usize
+    requires { ⌜ Room (now buffer) at (elementBytes listCode (list (device (now c) s) none)) ⌝ }
+    ensures { λ r. ⌜ Put (now (buffer .entry)) at (elementBytes listCode (list (device (now (c .entry)) s) none)) (now (buffer .exit)) r ⌝ }
+{
+    let x = put_parameters(c, s, buffer, at + ROW_FRONT);
+    put_front(buffer, at, s, x.count);
+    x.end
+}
+
+// The rows of all devices.
+fn put_devices(c: &[u8], t: Table, buffer: &mut [u8], at: usize) -> Extent
+    requires { ⌜ Room (now buffer) at (elementBytes listCode (published (now c) t)) ⌝ }
+    ensures { λ r. ⌜ Put (now (buffer .entry)) at (elementBytes listCode (published (now (c .entry)) t)) (now (buffer .exit)) (r .end)
+        × (r .count ≡ count (published (now (c .entry)) t)) ⌝ }
+{
+    let mut end = at;
+    let mut count: u32 = 0;
+    let mut socket: u8 = 0;
+    while socket < SOCKETS {
+        let place = table::find_slot(t, socket);
+        if let Place::At(i) = place {
+            let s = t.slots[i];
+            end = put_device(c, s, buffer, end);
+            count += 1;
+        }
+        socket += 1;
+    }
+    Extent { end, count }
+}
+
+// The published list at the front of the buffer.
+pub fn put_list(c: &[u8], t: Table, buffer: &mut [u8]) -> usize
+    requires { ⌜ length (listBytes (published (now c) t)) ≤ length (now buffer) ⌝ }
+    ensures { λ r. ⌜ (now (buffer .exit) ≡ over (listBytes (published (now (c .entry)) t)) (now (buffer .entry)))
+        × (r ≡ length (listBytes (published (now (c .entry)) t))) ⌝ }
+{
+    let x = put_devices(c, t, buffer, LIST_FRONT);
+    put_two(buffer, 0, LIST_CODE, x.count);
+    x.end
+}
