@@ -8,8 +8,15 @@
 //!                                    or reader
 //!   bench --as run|replay            the second reader as that program, for callgrind
 
+#[cfg(not(any(feature = "packet", feature = "list")))]
+compile_error!("name the calls to measure: --features packet, list or both");
+
 mod cases;
 mod instructions;
+#[cfg(feature = "list")]
+mod lists;
+#[cfg(feature = "packet")]
+mod packets;
 
 use cases::{Case, Side};
 use std::process::ExitCode;
