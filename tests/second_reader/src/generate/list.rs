@@ -280,8 +280,8 @@ fn spoil_string(random: &mut Random, elements: &mut [Element]) -> bool {
         let length = elements.len();
         match &mut elements[(start + at) % length] {
             String(text) if !text.is_empty() => {
-                let place = random.below(text.len());
-                text[place] = 0;
+                let zero_at = random.below(text.len());
+                text[zero_at] = 0;
                 return true;
             }
             List(inner) => {

@@ -40,9 +40,10 @@ pub fn damage(random: &mut Random, bytes: &mut Vec<u8>) {
     }
 }
 
-/// Puts a telling number over the four bytes around `at`, mostly on a word boundary.
+/// Puts a telling number over the four bytes at `at`, or on the word boundary before it:
+/// numbers stand on one until the first string or blob.
 pub fn replace_word(random: &mut Random, bytes: &mut [u8], at: usize) {
-    let start = if random.once_in(8) { at } else { at & !3 };
+    let start = if random.once_in(2) { at } else { at & !3 };
     let word = if random.once_in(4) { random.word() } else { random.pick(&TELLING_WORDS) };
     let room = bytes.len() - start;
     let width = room.min(4);
