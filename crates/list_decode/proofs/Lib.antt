@@ -1,0 +1,4 @@
+pub mod Reading
+pub mod Checks
+pub mod Fills
+pub mod Answers

@@ -1,0 +1,42 @@
+// Reading one list: judged whole, then its rows and its store bytes are written.
+mod check;
+mod fill;
+mod item;
+
+use crate::check::Checked;
+use list::LIST_LIMIT;
+use list::ROW_NUMBERS;
+ghost use mathlib.Core.Path.{_≡_};
+ghost use Rattle.list_decode.specs.Decode.{outcome, decodeOf};
+
+// The list at the front: the bytes it takes and the rows it fills; or 01's number and the offset of the item at fault.
+pub enum Decoded {
+    List { consumed: usize, rows: usize },
+    Refused { error: u8, offset: usize },
+}
+
+// Reads the list at the front of `bytes` into rows of three numbers and a byte store. A refusal changes neither.
+pub fn decode(bytes: &[u8], rows: &mut [u32], store: &mut [u8]) -> Decoded
+    ensures { λ r. ⌜ outcome r (now (rows .exit)) (now (store .exit)) ≡ decodeOf (now (bytes .entry)) (now (rows .entry)) (now (store .entry)) ⌝ }
+{
+    if rows.len() < ROW_NUMBERS {
+        return Decoded::Refused {
+            error: 20,
+            offset: 0,
+        };
+    }
+    if store.len() < LIST_LIMIT {
+        return Decoded::Refused {
+            error: 20,
+            offset: 0,
+        };
+    }
+    let c = check::check(bytes);
+    match c {
+        Checked::Bad(error, offset) => Decoded::Refused { error, offset },
+        Checked::Ok(consumed) => {
+            let n = fill::fill(bytes, consumed, rows, store);
+            Decoded::List { consumed, rows: n }
+        }
+    }
+}
