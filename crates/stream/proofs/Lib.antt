@@ -1,0 +1,7 @@
+pub mod Reading
+pub mod Steps
+pub mod Judging
+pub mod Runs
+pub mod Handing
+pub mod Demand3
+pub mod Cases

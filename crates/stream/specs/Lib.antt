@@ -1,0 +1,4 @@
+pub mod Step
+pub mod Series
+pub mod Run
+pub mod Judged
