@@ -12,6 +12,7 @@ use Rattle.list.specs.Bytes.{listBytes}
 use Rattle.list.specs.Rows.{listRows, listStore}
 use Rattle.list.specs.Legal.{Legal}
 use Rattle.list.specs.Parse.{bad, parse}
+use Rattle.list.proofs.Same.{same-exactly}
 use Rattle.list_decode.specs.declared.Decoded.the-variants as decoded
 use Rattle.list_decode.specs.Decode.{outcome}
 use Rattle.stream.specs.declared.Step.the-variants as step
@@ -19,7 +20,7 @@ use Rattle.stream.specs.Step.{Form, numbers}
 use Rattle.stream.specs.Series.{Lending, series}
 use Rattle.stream.specs.Run.{LegalRun, runBytes, Opens, StartsNone, passedOver, behind, expected}
 use Rattle.stream.proofs.Reading.{Reads, numbers-read}
-use Rattle.stream.proofs.Runs.{Split, runs-injective, no-list-opens-another, same-exactly, refused, any-bytes}
+use Rattle.stream.proofs.Runs.{Split, runs-injective, no-list-opens-another, refused, any-bytes}
 use Rattle.stream.proofs.Handing.{Closed, passed-over, from-offset}
 
 -- a run followed by any bytes: the lists that these begin with, and what follows those

@@ -1,31 +1,25 @@
 -- Runs of lists and their bytes: two different runs never have equal bytes, and any bytes are a run and a rest that starts with no legal list.
 use Prim.Native.Nat.{ℕ, zero, suc, _≤_}
 use mathlib.Core.Path.{_≡_, refl, sym, ap, _∙_}
-use mathlib.Core.List.{List, [], _∷_, _++_, append-assoc, append-nil}
+use mathlib.Core.List.{List, [], _∷_, _++_, append-assoc}
 use native.Mathlib.Omega.{arith}
 use lib.ListN.{length, drop, length-append, length-drop}
-use lib.Seq.{drop-at}
 use Rattle.wire.specs.Number.{Bytes}
 use Rattle.list.specs.Limits.{listLimit}
 use Rattle.list.specs.Tree.{Elements}
 use Rattle.list.specs.Bytes.{listBytes}
-use Rattle.list.specs.Rows.{listRows, listStore}
 use Rattle.list.specs.Legal.{Legal}
 use Rattle.list.specs.Parse.{Parsed, good, bad, parse}
+use Rattle.list.proofs.Items.{bytes-drop}
+use Rattle.list.proofs.RowBound.{list-size}
 use Rattle.list.proofs.Complete.{complete}
 use Rattle.list.proofs.Sound.{sound}
-use Rattle.list.proofs.Same.{same-list}
+use Rattle.list.proofs.OneImage.{same-front, no-list-opens}
 use Rattle.stream.specs.Run.{LegalRun, runBytes, Opens, StartsNone}
 
 -- a list has at least its code and its count
 pub some-bytes : (es : Elements) → 8 ≤ length (listBytes es)
-unfolding listBytes
-some-bytes es = omega arith
-
-bytes-drop : (n : ℕ) (s : List ℕ) → Bytes s → Bytes (drop n s)
-bytes-drop zero s b = b
-bytes-drop (suc n) [] b = tt
-bytes-drop (suc n) (x ∷ s) b = bytes-drop n s (b .1)
+some-bytes es = omega (arith, list-size es)
 
 -- no byte at all starts with no legal list
 pub none-starts : StartsNone []
@@ -48,32 +42,18 @@ pub record Split (s : List ℕ) : Type 0 where
 pub reads-front : (es : Elements) (x : List ℕ) → Legal listLimit es → parse listLimit (listBytes es ++ x) ≡ good es (length (listBytes es))
 reads-front es x l = complete listLimit es x (omega arith) l
 
--- two legal lists at the front of the same bytes are one, and the same follows them
-pub same-front : (es fs : Elements) (x y : List ℕ) → Legal listLimit es → Legal listLimit fs
-    → listBytes es ++ x ≡ listBytes fs ++ y → (es ≡ fs) × (x ≡ y)
-same-front es fs x y l m h =
-    let g : good es (length (listBytes es)) ≡ good fs (length (listBytes fs)) = sym (reads-front es x l) ∙ ap (parse listLimit) h ∙ reads-front fs y m in
-    let e : es ≡ fs = cc in
-    let n : length (listBytes es) ≡ length (listBytes fs) = cc in
-    (e, sym (drop-at (listBytes es) x (length (listBytes es)) refl) ∙ rw (h, n) (drop-at (listBytes fs) y (length (listBytes fs)) refl))
-
 -- "Two different runs of lists never have equal bytes"
 pub runs-injective : (run other : List Elements) → LegalRun run → LegalRun other → runBytes run ≡ runBytes other → run ≡ other
 runs-injective [] [] l m h = refl
 runs-injective [] (fs ∷ other) l m h = absurd (omega (arith, some-bytes fs, simp length-append at (ap length h)))
 runs-injective (es ∷ run) [] l m h = absurd (omega (arith, some-bytes es, simp length-append at (ap length h)))
 runs-injective (es ∷ run) (fs ∷ other) l m h =
-    let s = same-front es fs (runBytes run) (runBytes other) (l .0) (m .0) h in
+    let s = same-front listLimit es fs (runBytes run) (runBytes other) (omega arith) (l .0) (m .0) h in
     rw (s .0, runs-injective run other (l .1) (m .1) (s .1))
 
 -- "No list's bytes open another list's bytes": where they do, the two lists are one
 pub no-list-opens-another : (es fs : Elements) → Legal listLimit es → Legal listLimit fs → Opens (listBytes es) (listBytes fs) → es ≡ fs
-no-list-opens-another es fs l m o = same-front es fs (o .0) [] l m (sym (o .1) ∙ sym (append-nil (listBytes fs))) .0
-
--- "two differ exactly when their rows or store bytes in use differ"
-pub same-exactly : (es fs : Elements)
-    → ((listRows es ≡ listRows fs) × (listStore es ≡ listStore fs) → es ≡ fs) × (es ≡ fs → (listRows es ≡ listRows fs) × (listStore es ≡ listStore fs))
-same-exactly es fs = (λ h. same-list es fs (h .0) (h .1), λ e. (ap listRows e, ap listStore e))
+no-list-opens-another es fs l m o = no-list-opens listLimit es fs (o .0) (omega arith) l m (o .1)
 
 -- bytes that start with no legal list are refused, and only these
 pub refused : (s : List ℕ) → Bytes s → StartsNone s → Refuses s
