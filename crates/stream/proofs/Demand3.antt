@@ -21,7 +21,7 @@ use Rattle.stream.specs.Series.{Lending, series}
 use Rattle.stream.specs.Run.{LegalRun, runBytes, Opens, StartsNone, passedOver, behind, expected}
 use Rattle.stream.proofs.Reading.{Reads, numbers-read}
 use Rattle.stream.proofs.Runs.{Split, runs-injective, no-list-opens-another, refused, any-bytes}
-use Rattle.stream.proofs.Handing.{Closed, passed-over, from-offset}
+use Rattle.stream.proofs.Handing.{closed, passed-over, from-offset}
 
 -- a run followed by any bytes: the lists that these begin with, and what follows those
 pub record Followed (form : Form) (run : List Elements) (rest : List ℕ) : Type 0 where
@@ -71,10 +71,6 @@ legal-append (es ∷ run) more l m = (l .0, legal-append run more (l .1) m)
 bytes-append : (run more : List Elements) → runBytes (run ++ more) ≡ runBytes run ++ runBytes more
 bytes-append [] more = refl
 bytes-append (es ∷ run) more = rw (bytes-append run more) (sym (append-assoc (listBytes es) (runBytes run) (runBytes more)))
-
-closed : (rest : List ℕ) → Bytes rest → StartsNone rest → Closed rest
-closed [] b n = tt
-closed (x ∷ rest) b n = refused (x ∷ rest) b n
 
 module _ (form : Form) (reads : Reads form) where
   -- every series of steps over a run, with no byte behind it or bytes that start with no legal list

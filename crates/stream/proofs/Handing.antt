@@ -8,6 +8,7 @@ use native.Mathlib.Omega.{arith}
 use native.Mathlib.Nat.{add-zero}
 use lib.ListN.{length, drop, length-append, length-drop}
 use lib.Seq.{drop-at, drop-drop}
+use Rattle.wire.specs.Number.{Bytes}
 use Rattle.list.specs.Limits.{listLimit}
 use Rattle.list.specs.Tree.{Elements}
 use Rattle.list.specs.Bytes.{listBytes}
@@ -17,15 +18,19 @@ use Rattle.list_decode.specs.Decode.{Outcome, outcome}
 use Rattle.stream.specs.declared.Step.{Step}
 use Rattle.stream.specs.Step.{Form, stepOf}
 use Rattle.stream.specs.Series.{Lending, consumedBy, series}
-use Rattle.stream.specs.Run.{LegalRun, runBytes, passedOver, handedOver, behind, handing, expected}
+use Rattle.stream.specs.Run.{LegalRun, runBytes, StartsNone, passedOver, handedOver, behind, handing, expected}
 use Rattle.stream.proofs.Reading.{Reads}
 use Rattle.stream.proofs.Steps.{step-short, step-end, step-in, series-next}
-use Rattle.stream.proofs.Runs.{some-bytes, Refuses}
+use Rattle.stream.proofs.Runs.{some-bytes, Refuses, refused}
 
 -- no byte follows, or bytes that list reading refuses
 abbrev pub Closed : List ℕ → Type 0
 Closed [] = Unit {0}
 Closed (b ∷ rest) = Refuses (b ∷ rest)
+
+pub closed : (rest : List ℕ) → Bytes rest → StartsNone rest → Closed rest
+closed [] b n = tt
+closed (x ∷ rest) b n = refused (x ∷ rest) b n
 
 module _ (form : Form) (reads : Reads form) (s : List ℕ) where
   -- a step with enough room where a legal list stands

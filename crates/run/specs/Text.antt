@@ -1,0 +1,76 @@
+-- What the program prints: 01's lines, each ended by a newline.
+use Prim.Native.Nat.{ℕ, zero, suc, _+_, _/_, _%_}
+use mathlib.Core.Bool.{cond}
+use mathlib.Core.List.{List, [], _∷_, _++_}
+use lib.Dec.{eqb, ltb}
+use lib.ListN.{length, drop}
+use Rattle.list.specs.Limits.{listLimit}
+use Rattle.list.specs.Tree.{Elements}
+use Rattle.list.specs.Bytes.{listBytes}
+use Rattle.list.specs.Rows.{rowCount}
+use Rattle.list.specs.Parse.{Parsed, good, bad, parse}
+use Rattle.stream.specs.declared.Step.{Step}
+use Rattle.stream.specs.declared.Step.the-variants as step
+use Rattle.stream.specs.Run.{runBytes, behind}
+
+-- a number in decimal, with at most `most` digits
+unfoldable pub decimalOf : ℕ → ℕ → List ℕ
+decimalOf zero n = []
+decimalOf (suc most) n = cond (ltb n 10) ((48 + n) ∷ []) (decimalOf most (n / 10) ++ ((48 + n % 10) ∷ []))
+
+-- a number of 64 bits has at most 20 digits
+abbrev pub decimal : ℕ → List ℕ
+decimal n = decimalOf 20 n
+
+-- `list 1 bytes 40 rows 9`
+unfoldable pub listLine : ℕ → ℕ → ℕ → List ℕ
+listLine k consumed rows =
+    ((108 ∷ 105 ∷ 115 ∷ 116 ∷ 32 ∷ []) ++ decimal k)
+    ++ (((32 ∷ 98 ∷ 121 ∷ 116 ∷ 101 ∷ 115 ∷ 32 ∷ []) ++ decimal consumed)
+    ++ (((32 ∷ 114 ∷ 111 ∷ 119 ∷ 115 ∷ 32 ∷ []) ++ decimal rows)
+    ++ (10 ∷ [])))
+
+-- `end 112`
+unfoldable pub endLine : ℕ → List ℕ
+endLine offset = ((101 ∷ 110 ∷ 100 ∷ 32 ∷ []) ++ decimal offset) ++ (10 ∷ [])
+
+-- `stop 21 at 112`
+unfoldable pub stopLine : ℕ → ℕ → List ℕ
+stopLine error offset =
+    ((115 ∷ 116 ∷ 111 ∷ 112 ∷ 32 ∷ []) ++ decimal error) ++ (((32 ∷ 97 ∷ 116 ∷ 32 ∷ []) ++ decimal offset) ++ (10 ∷ []))
+
+-- the lines of a run's lists, the first of them the k-th
+abbrev pub listLines : ℕ → List Elements → List ℕ
+listLines k [] = []
+listLines k (es ∷ run) = listLine k (length (listBytes es)) (rowCount es) ++ listLines (suc k) run
+
+-- the line of the answer behind a run of `size` bytes
+abbrev pub lastLine : ℕ → Step → List ℕ
+lastLine size step.End = endLine size
+lastLine size (step.Refused error offset) = stopLine error offset
+lastLine size (step.List consumed rows) = []
+
+-- what is printed for a run and the bytes that follow it
+abbrev pub printed : List Elements → List ℕ → List ℕ
+printed run rest = listLines 1 run ++ lastLine (length (runBytes run)) (behind (length (runBytes run)) rest)
+
+-- Internal: the same by steps, as the program takes them; `proofs/Lines.antt` ties the two.
+abbrev pub answerOf : ℕ → Parsed Elements → Step
+answerOf offset (good es consumed) = step.List consumed (rowCount es)
+answerOf offset (bad error at) = step.Refused error (offset + at)
+
+unfoldable pub answerAt : List ℕ → ℕ → Step
+answerAt s offset = cond (eqb offset (length s)) step.End (answerOf offset (parse listLimit (drop offset s)))
+
+abbrev pub lineAnd : (ℕ → List ℕ) → ℕ → ℕ → Step → List ℕ
+lineAnd more offset k (step.List consumed rows) = listLine k consumed rows ++ more consumed
+lineAnd more offset k step.End = endLine offset
+lineAnd more offset k (step.Refused error at) = stopLine error at
+
+unfoldable pub textFrom : ℕ → List ℕ → ℕ → ℕ → List ℕ
+textFrom zero s offset k = []
+textFrom (suc fuel) s offset k = lineAnd (λ consumed. textFrom fuel s (offset + consumed) (suc k)) offset k (answerAt s offset)
+
+-- a list has a byte or more, so a step for each byte and one more are enough
+abbrev pub textOf : List ℕ → List ℕ
+textOf s = textFrom (suc (length s)) s 0 1

@@ -1,0 +1,104 @@
+// Reads a stream of lists from standard input and prints a line for each list, and one for what stands behind them.
+ghost use Prim.Native.Nat.{_+_, _≤_, _<_};
+ghost use mathlib.Core.Path.{_≡_};
+ghost use mathlib.Core.List.{_++_};
+ghost use lib.ListN.{length, take};
+ghost use Rattle.io.specs.Counts.{Counts};
+ghost use Rattle.run.specs.Text.{decimal, listLine, endLine, stopLine, textOf};
+ghost use Rattle.run.specs.Added.{Added};
+use libc::STDIN_FILENO;
+use libc::STDOUT_FILENO;
+use list::LIST_LIMIT;
+use list::ROW_NUMBERS;
+use stream::Step;
+
+// "over 32,768 bytes it prints `too long`": one byte more is read, to tell.
+const INPUT_LIMIT: usize = 32768;
+
+// A line has at most 79 bytes, and a list at least 8: room for 4,096 lines of lists and the last line.
+const TEXT_ROOM: usize = 327680;
+
+fn main() {
+    let mut input = [0u8; 32769];
+    let n = io::read_full(STDIN_FILENO, &mut input);
+    if INPUT_LIMIT < n {
+        io::write_all(STDOUT_FILENO, b"too long\n");
+        return;
+    }
+    let mut rows = [0u32; ROW_NUMBERS];
+    let mut store = [0u8; LIST_LIMIT];
+    let mut text = [0u8; TEXT_ROOM];
+    let used = report(&input[..n], &mut rows, &mut store, &mut text);
+    io::write_all(STDOUT_FILENO, &text[..used]);
+}
+
+// All lines of a stream; answers the bytes of text.
+fn report(bytes: &[u8], rows: &mut [u32], store: &mut [u8], text: &mut [u8]) -> usize
+    requires { ⌜ (length (now bytes) ≤ 32768) × (length (now rows) ≡ 3072) × (length (now store) ≡ 4096) × (length (now text) ≡ 327680) ⌝ }
+    ensures { λ r. ⌜ (take r (now (text .exit)) ≡ textOf (now (bytes .entry))) × Counts r (now (text .exit)) ⌝ }
+{
+    let mut offset: usize = 0;
+    let mut used: usize = 0;
+    let mut k: usize = 1;
+    loop {
+        let step = stream::next(bytes, offset, rows, store);
+        match step {
+            Step::List { consumed, rows: n } => {
+                used = list_line(text, used, k, consumed, n);
+                offset += consumed;
+                k += 1;
+            }
+            Step::End => return end_line(text, used, offset),
+            Step::Refused { error, offset: at } => return stop_line(text, used, error, at),
+        }
+    }
+}
+
+// `list 1 bytes 40 rows 9`
+fn list_line(text: &mut [u8], used: usize, k: usize, consumed: usize, rows: usize) -> usize
+    requires { ⌜ used + 79 ≤ length (now text) ⌝ }
+    ensures { λ r. ⌜ Added (now (text .entry)) used (now (text .exit)) r (listLine k consumed rows) × (r ≤ used + 79) ⌝ }
+{
+    let a = labelled(text, used, b"list ", k);
+    let b = labelled(text, a, b" bytes ", consumed);
+    let c = labelled(text, b, b" rows ", rows);
+    put(text, c, b"\n")
+}
+
+// `end 112`
+fn end_line(text: &mut [u8], used: usize, offset: usize) -> usize
+    requires { ⌜ used + 79 ≤ length (now text) ⌝ }
+    ensures { λ r. ⌜ Added (now (text .entry)) used (now (text .exit)) r (endLine offset) × (r ≤ used + 79) ⌝ }
+{
+    let a = labelled(text, used, b"end ", offset);
+    put(text, a, b"\n")
+}
+
+// `stop 21 at 112`
+fn stop_line(text: &mut [u8], used: usize, error: u8, offset: usize) -> usize
+    requires { ⌜ used + 79 ≤ length (now text) ⌝ }
+    ensures { λ r. ⌜ Added (now (text .entry)) used (now (text .exit)) r (stopLine error offset) × (r ≤ used + 79) ⌝ }
+{
+    let a = labelled(text, used, b"stop ", error as usize);
+    let b = labelled(text, a, b" at ", offset);
+    put(text, b, b"\n")
+}
+
+// A label and a number in decimal.
+fn labelled(text: &mut [u8], used: usize, label: &[u8], n: usize) -> usize
+    requires { ⌜ used + length (now label) + 20 ≤ length (now text) ⌝ }
+    ensures { λ r. ⌜ Added (now (text .entry)) used (now (text .exit)) r (now (label .entry) ++ decimal n) × (r ≤ used + length (now (label .entry)) + 20) ⌝ }
+{
+    let a = put(text, used, label);
+    let mut digits = [0u8; 20];
+    let count = io::decimal(n as u64, &mut digits);
+    put(text, a, &digits[..count])
+}
+
+fn put(text: &mut [u8], used: usize, part: &[u8]) -> usize
+    requires { ⌜ used + length (now part) ≤ length (now text) ⌝ }
+    ensures { λ r. ⌜ Added (now (text .entry)) used (now (text .exit)) r (now (part .entry)) ⌝ }
+{
+    wire::copy_at(text, used, part);
+    used + part.len()
+}

@@ -1,0 +1,136 @@
+#!/bin/sh
+# Runs the run program on inputs whose lines 01 gives, and compares what it prints. Exits with 1 where one differs.
+# Usage: tests/run_cases.sh [PROGRAM]    (default target/bin/run, which `rt check run` builds)
+set -eu
+run=${1:-target/bin/run}
+room=$(mktemp -d)
+trap 'rm -rf "$room"' EXIT
+failed=0
+
+# numbers as 32-bit words, low byte first
+words() {
+    for n in "$@"; do
+        printf "$(printf '\\%03o\\%03o\\%03o\\%03o' $((n & 255)) $((n >> 8 & 255)) $((n >> 16 & 255)) $((n >> 24 & 255)))"
+    done
+}
+
+# twice FILE TIMES: doubles a file that many times
+twice() {
+    for _ in $(seq "$2"); do
+        cat "$1" "$1" >"$room/double"
+        mv "$room/double" "$1"
+    done
+}
+
+# expect NAME: standard input has the lines that the program must print for $room/in
+expect() {
+    cat >"$room/want"
+    "$run" <"$room/in" >"$room/got"
+    if cmp -s "$room/want" "$room/got"; then
+        echo "run: $1: ok"
+    else
+        echo "run: $1: DIFFERS"
+        diff "$room/want" "$room/got" | head -n 10 || :
+        failed=1
+    fi
+}
+
+primes() {
+    words 257 8 2 3 5 7 11 13 17 19
+}
+
+# the two-list example; $1 is the byte at the end of its first string
+two_lists() {
+    words 256 2 257 3 91 92 93 260 4 5
+    printf "this\\$1"
+    words 3
+    printf 'is\000'
+    words 2
+    printf 'a\000'
+    words 10
+    printf 'good list\000'
+}
+
+: >"$room/in"
+expect 'no bytes' <<EOF
+end 0
+EOF
+
+{ primes; two_lists 000; } >"$room/in"
+expect 'two lists' <<EOF
+list 1 bytes 40 rows 9
+list 2 bytes 72 rows 10
+end 112
+EOF
+
+{ primes; two_lists 000; printf '\000\000'; } >"$room/in"
+expect 'two lists and 00 00' <<EOF
+list 1 bytes 40 rows 9
+list 2 bytes 72 rows 10
+stop 21 at 112
+EOF
+
+{ primes; two_lists 170; primes; } >"$room/in"
+expect 'a string that does not end in zero' <<EOF
+list 1 bytes 40 rows 9
+stop 25 at 80
+EOF
+
+{ two_lists 000; words 256 1 1 5; primes; } >"$room/in"
+expect 'a list of one kind that is not typed' <<EOF
+list 1 bytes 72 rows 10
+stop 24 at 72
+EOF
+
+{ primes; words 256 1 256 1 256 1 256 1 256 1 256 1 256 1 256 0; } >"$room/in"
+expect 'eight nested lists' <<EOF
+list 1 bytes 40 rows 9
+list 2 bytes 64 rows 8
+end 104
+EOF
+
+{ primes; words 256 1 256 1 256 1 256 1 256 1 256 1 256 1 256 1 256 0; } >"$room/in"
+expect 'nine nested lists' <<EOF
+list 1 bytes 40 rows 9
+stop 27 at 104
+EOF
+
+# a list of 1,022 numbers has 4,096 bytes, and eight of them 32,768
+words 7 >"$room/numbers"
+twice "$room/numbers" 10
+{ words 257 1022; head -c 4088 "$room/numbers"; } >"$room/in"
+twice "$room/in" 3
+expect '32,768 bytes, eight lists of 4,096' <<EOF
+list 1 bytes 4096 rows 1023
+list 2 bytes 4096 rows 1023
+list 3 bytes 4096 rows 1023
+list 4 bytes 4096 rows 1023
+list 5 bytes 4096 rows 1023
+list 6 bytes 4096 rows 1023
+list 7 bytes 4096 rows 1023
+list 8 bytes 4096 rows 1023
+end 32768
+EOF
+
+printf '\000' >>"$room/in"
+expect '32,769 bytes' <<EOF
+too long
+EOF
+
+{ primes; words 257 1023; cat "$room/numbers"; } >"$room/in"
+expect 'a list of 1,023 numbers' <<EOF
+list 1 bytes 40 rows 9
+stop 28 at 4136
+EOF
+
+words 256 0 >"$room/in"
+twice "$room/in" 12
+seq 4096 | awk '{ print "list " $1 " bytes 8 rows 1" } END { print "end 32768" }' >"$room/lines"
+expect '32,768 bytes, 4,096 empty lists' <"$room/lines"
+
+head -c 1000000 /dev/zero >"$room/in"
+expect 'a million bytes' <<EOF
+too long
+EOF
+
+exit $failed
