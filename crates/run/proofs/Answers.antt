@@ -11,7 +11,7 @@ use borrow.Author.Tests.{eqb-true, eqb-false, le-leb}
 use mir.Val.{Fits}
 use mir.Syntax.{w8}
 use Rattle.wire.specs.Number.{Bytes}
-use Rattle.list.specs.Limits.{listLimit}
+use Rattle.list.specs.Limits.{listLimit, rowRoom, storeRoom}
 use Rattle.list.specs.Tree.{Elements}
 use Rattle.list.specs.Parse.{Parsed, good, bad, parse}
 use Rattle.list.proofs.Items.{bytes-drop}
@@ -31,14 +31,14 @@ bytes-all [] h = tt
 bytes-all (b ∷ s) h = (h 0, bytes-all s (λ i. h (suc i)))
 
 -- a step with enough room answers by the bytes alone
-answers : (s : List ℕ) (offset : ℕ) (rows store rows′ store′ : List ℕ) (a : Step) → length rows ≡ 3072 → length store ≡ 4096 → offset ≤ length s
+answers : (s : List ℕ) (offset : ℕ) (rows store rows′ store′ : List ℕ) (a : Step) → length rows ≡ rowRoom → length store ≡ storeRoom → offset ≤ length s
     → outcome a rows′ store′ ≡ stepOf numbers s offset rows store → a ≡ answerAt s offset
 unfolding answerAt roomy
 answers s offset rows store rows′ store′ a h g f o =
     go (eqb offset (length s)) refl (parse listLimit (drop offset s)) refl
   where
     enough : roomy rows store ≡ true
-    enough = rw (le-leb 3072 (length rows) (omega arith), le-leb 4096 (length store) (omega arith))
+    enough = rw (le-leb rowRoom (length rows) (omega arith), le-leb storeRoom (length store) (omega arith))
 
     go : (e : Bool) → eqb offset (length s) ≡ e → (p : Parsed Elements) → parse listLimit (drop offset s) ≡ p → a ≡ cond e step.End (answerOf offset p)
     go true e p q = ap (λ (x : Outcome Step). x .answer) (o ∙ step-end numbers s offset rows store enough (eqb-true offset (length s) e))
@@ -52,7 +52,7 @@ answers s offset rows store rows′ store′ a h g f o =
         (o ∙ step-in numbers s offset rows store enough inside ∙ ap (stepped offset) (numbers-read .fault (drop offset s) rows store error at enough q))
 
 -- so what it answered is what stands at the offset
-pub answered : (s : List ℕ) (offset : ℕ) (rows store rows′ store′ : List ℕ) (a x : Step) → length rows ≡ 3072 → length store ≡ 4096 → offset ≤ length s
+pub answered : (s : List ℕ) (offset : ℕ) (rows store rows′ store′ : List ℕ) (a x : Step) → length rows ≡ rowRoom → length store ≡ storeRoom → offset ≤ length s
     → outcome a rows′ store′ ≡ stepOf numbers s offset rows store → a ≡ x → answerAt s offset ≡ x
 answered s offset rows store rows′ store′ a x h g f o e = sym (answers s offset rows store rows′ store′ a h g f o) ∙ e
 
@@ -76,7 +76,7 @@ list-at s offset n rows b f h = go (eqb offset (length s)) (parse listLimit (dro
         let r = reaches listLimit (drop offset s) es m q in
         record { found = h; some = omega (arith, list-size es, w .1); fits = omega (arith, length-drop offset s, r .1) }
 
-pub list-found : (s : List ℕ) (offset : ℕ) (rows store rows′ store′ : List ℕ) (a : Step) (n m : ℕ) → length rows ≡ 3072 → length store ≡ 4096 → offset ≤ length s
+pub list-found : (s : List ℕ) (offset : ℕ) (rows store rows′ store′ : List ℕ) (a : Step) (n m : ℕ) → length rows ≡ rowRoom → length store ≡ storeRoom → offset ≤ length s
     → ((i : ℕ) → Fits w8 (getD s i 0)) → outcome a rows′ store′ ≡ stepOf numbers s offset rows store → a ≡ step.List n m → ListAt s offset n m
 list-found s offset rows store rows′ store′ a n m h g f b o e =
     list-at s offset n m (bytes-all s (λ i. b i .fits)) f (answered s offset rows store rows′ store′ a (step.List n m) h g f o e)

@@ -12,15 +12,15 @@ use Rattle.list.specs.Parse.{Parsed, good, bad, parse}
 use Rattle.stream.specs.declared.Step.{Step}
 use Rattle.stream.specs.declared.Step.the-variants as step
 use Rattle.stream.specs.Run.{runBytes, behind}
+use Rattle.run.specs.Limits.{digitRoom}
 
 -- a number in decimal, with at most `most` digits
 unfoldable pub decimalOf : ℕ → ℕ → List ℕ
 decimalOf zero n = []
 decimalOf (suc most) n = cond (ltb n 10) ((48 + n) ∷ []) (decimalOf most (n / 10) ++ ((48 + n % 10) ∷ []))
 
--- a number of 64 bits has at most 20 digits
 abbrev pub decimal : ℕ → List ℕ
-decimal n = decimalOf 20 n
+decimal n = decimalOf digitRoom n
 
 -- `list 1 bytes 40 rows 9`
 unfoldable pub listLine : ℕ → ℕ → ℕ → List ℕ

@@ -4,6 +4,8 @@ ghost use mathlib.Core.Path.{_≡_};
 ghost use mathlib.Core.List.{_++_};
 ghost use lib.ListN.{length, take};
 ghost use Rattle.io.specs.Counts.{Counts};
+ghost use Rattle.list.specs.Limits.{rowRoom, storeRoom};
+ghost use Rattle.run.specs.Limits.{inputLimit, digitRoom, lineRoom, textRoom};
 ghost use Rattle.run.specs.Text.{decimal, listLine, endLine, stopLine, textOf};
 ghost use Rattle.run.specs.Added.{Added};
 use libc::STDIN_FILENO;
@@ -19,7 +21,7 @@ const INPUT_LIMIT: usize = 32768;
 const TEXT_ROOM: usize = 327680;
 
 fn main() {
-    let mut input = [0u8; 32769];
+    let mut input = [0u8; INPUT_LIMIT + 1];
     let n = io::read_full(STDIN_FILENO, &mut input);
     if INPUT_LIMIT < n {
         io::write_all(STDOUT_FILENO, b"too long\n");
@@ -34,7 +36,7 @@ fn main() {
 
 // All lines of a stream; answers the bytes of text.
 fn report(bytes: &[u8], rows: &mut [u32], store: &mut [u8], text: &mut [u8]) -> usize
-    requires { ⌜ (length (now bytes) ≤ 32768) × (length (now rows) ≡ 3072) × (length (now store) ≡ 4096) × (length (now text) ≡ 327680) ⌝ }
+    requires { ⌜ (length (now bytes) ≤ inputLimit) × (length (now rows) ≡ rowRoom) × (length (now store) ≡ storeRoom) × (length (now text) ≡ textRoom) ⌝ }
     ensures { λ r. ⌜ (take r (now (text .exit)) ≡ textOf (now (bytes .entry))) × Counts r (now (text .exit)) ⌝ }
 {
     let mut offset: usize = 0;
@@ -56,8 +58,8 @@ fn report(bytes: &[u8], rows: &mut [u32], store: &mut [u8], text: &mut [u8]) -> 
 
 // `list 1 bytes 40 rows 9`
 fn list_line(text: &mut [u8], used: usize, k: usize, consumed: usize, rows: usize) -> usize
-    requires { ⌜ used + 79 ≤ length (now text) ⌝ }
-    ensures { λ r. ⌜ Added (now (text .entry)) used (now (text .exit)) r (listLine k consumed rows) × (r ≤ used + 79) ⌝ }
+    requires { ⌜ used + lineRoom ≤ length (now text) ⌝ }
+    ensures { λ r. ⌜ Added (now (text .entry)) used (now (text .exit)) r (listLine k consumed rows) × (r ≤ used + lineRoom) ⌝ }
 {
     let a = labelled(text, used, b"list ", k);
     let b = labelled(text, a, b" bytes ", consumed);
@@ -67,8 +69,8 @@ fn list_line(text: &mut [u8], used: usize, k: usize, consumed: usize, rows: usiz
 
 // `end 112`
 fn end_line(text: &mut [u8], used: usize, offset: usize) -> usize
-    requires { ⌜ used + 79 ≤ length (now text) ⌝ }
-    ensures { λ r. ⌜ Added (now (text .entry)) used (now (text .exit)) r (endLine offset) × (r ≤ used + 79) ⌝ }
+    requires { ⌜ used + lineRoom ≤ length (now text) ⌝ }
+    ensures { λ r. ⌜ Added (now (text .entry)) used (now (text .exit)) r (endLine offset) × (r ≤ used + lineRoom) ⌝ }
 {
     let a = labelled(text, used, b"end ", offset);
     put(text, a, b"\n")
@@ -76,8 +78,8 @@ fn end_line(text: &mut [u8], used: usize, offset: usize) -> usize
 
 // `stop 21 at 112`
 fn stop_line(text: &mut [u8], used: usize, error: u8, offset: usize) -> usize
-    requires { ⌜ used + 79 ≤ length (now text) ⌝ }
-    ensures { λ r. ⌜ Added (now (text .entry)) used (now (text .exit)) r (stopLine error offset) × (r ≤ used + 79) ⌝ }
+    requires { ⌜ used + lineRoom ≤ length (now text) ⌝ }
+    ensures { λ r. ⌜ Added (now (text .entry)) used (now (text .exit)) r (stopLine error offset) × (r ≤ used + lineRoom) ⌝ }
 {
     let a = labelled(text, used, b"stop ", error as usize);
     let b = labelled(text, a, b" at ", offset);
@@ -86,8 +88,8 @@ fn stop_line(text: &mut [u8], used: usize, error: u8, offset: usize) -> usize
 
 // A label and a number in decimal.
 fn labelled(text: &mut [u8], used: usize, label: &[u8], n: usize) -> usize
-    requires { ⌜ used + length (now label) + 20 ≤ length (now text) ⌝ }
-    ensures { λ r. ⌜ Added (now (text .entry)) used (now (text .exit)) r (now (label .entry) ++ decimal n) × (r ≤ used + length (now (label .entry)) + 20) ⌝ }
+    requires { ⌜ used + length (now label) + digitRoom ≤ length (now text) ⌝ }
+    ensures { λ r. ⌜ Added (now (text .entry)) used (now (text .exit)) r (now (label .entry) ++ decimal n) × (r ≤ used + length (now (label .entry)) + digitRoom) ⌝ }
 {
     let a = put(text, used, label);
     let mut digits = [0u8; 20];

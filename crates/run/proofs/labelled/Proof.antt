@@ -3,6 +3,7 @@ use Prim.Native.Nat.{_+_, _≤_}
 use mathlib.Core.Path.{_≡_, _∙_}
 use lib.ListN.{length}
 use borrow.Author.Needs.{needs}
+use Rattle.run.specs.Limits.{digitRoom}
 use Rattle.run.proofs.Adding.{two-pieces}
 use Rattle.run.proofs.Digits.{few, fewest-digits}
 use Rattle.run.proofs.labelled.Statement.{statement}
@@ -24,7 +25,7 @@ put-requires-2 : tie.Need-put-requires-2
 put-requires-2 c κs =
     let a = c .before .before .before .before .before .before .before .before .before .before .args in
     let d = c .before .before .decimal in
-    let short : d .result ≤ 20 = few (d .result) (a .n) (search needs) (d .ensures .1 .0) in
+    let short : d .result ≤ digitRoom = few (d .result) (a .n) (search needs) (d .ensures .1 .0) in
     let label : c .before .before .before .before .before .before .put .result ≡ a .used + length (a .label .now) = c .before .before .before .before .before .before .put .ensures .size in
     search needs
 
@@ -35,8 +36,8 @@ returns : tie.Need-returns
 returns c =
     let a = c .before .before .before .before .before .before .before .before .before .before .before .before .before .args in
     let d = c .before .before .before .before .before .decimal in
-    let short : d .result ≤ 20 = few (d .result) (a .n) (search needs) (d .ensures .1 .0) in
-    let number = d .ensures .1 .1 ∙ fewest-digits (d .result) 20 (a .n) short (d .ensures .1 .0) in
+    let short : d .result ≤ digitRoom = few (d .result) (a .n) (search needs) (d .ensures .1 .0) in
+    let number = d .ensures .1 .1 ∙ fewest-digits (d .result) digitRoom (a .n) short (d .ensures .1 .0) in
     let second = rw number at (c .before .before .put2 .ensures) in
     (two-pieces (c .before .before .before .before .before .before .before .before .before .put .ensures) second, search needs)
 

@@ -3,6 +3,8 @@ use Prim.Native.Nat.{ℕ, _≤_}
 use mathlib.Core.Path.{subst}
 use lib.ListN.{length-replicate}
 use borrow.Author.Needs.{needs}
+use Rattle.list.specs.Limits.{rowRoom, storeRoom}
+use Rattle.run.specs.Limits.{inputLimit, textRoom}
 use Rattle.run.proofs.main.Statement.{statement}
 use Rattle.run.proofs.main.Tie as tie
 
@@ -38,10 +40,10 @@ slice-aggregate-report-4 c = search needs
 
 report-requires : tie.Need-report-requires
 report-requires c κs = (
-  subst (λ (k : ℕ). k ≤ 32768) (c .before .before .before .before .before .before .read-full .ensures .1) (c .before .before .before .before .if1 .left),
-  length-replicate {A = ℕ} 3072 0,
-  length-replicate {A = ℕ} 4096 0,
-  length-replicate {A = ℕ} 327680 0,
+  subst (λ (k : ℕ). k ≤ inputLimit) (c .before .before .before .before .before .before .read-full .ensures .1) (c .before .before .before .before .if1 .left),
+  length-replicate {A = ℕ} rowRoom 0,
+  length-replicate {A = ℕ} storeRoom 0,
+  length-replicate {A = ℕ} textRoom 0,
 )
 
 array-share-prefix-text : tie.Need-array-share-prefix-text

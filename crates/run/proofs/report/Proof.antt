@@ -1,5 +1,5 @@
 -- `run::report` meets its contract. The loop's invariant: the text so far and the text from here on are the whole; each list before the k-th
--- has 8 bytes or more and a line of at most 79. The measure is what is left of the bytes.
+-- has 8 bytes or more and a line of bounded length. The measure is what is left of the bytes.
 use Prim.Native.Nat.{ℕ, _+_, _-_, _*_, _≤_}
 use mathlib.Core.Path.{_≡_, sym, ap}
 use mathlib.Core.List.{_++_}
@@ -7,6 +7,8 @@ use native.Mathlib.Omega.{arith}
 use lib.ListN.{length, take}
 use lib.Seq.{length-take-le}
 use borrow.Author.Needs.{needs}
+use Rattle.list.specs.Limits.{rowRoom, storeRoom}
+use Rattle.run.specs.Limits.{inputLimit, lineRoom, textRoom}
 use Rattle.run.specs.Text.{textFrom, textOf}
 use Rattle.run.proofs.Answers.{ListAt, answered, list-found, text-list, text-end, text-stop}
 use Rattle.run.proofs.report.Statement.{statement}
@@ -20,8 +22,8 @@ use Rattle.stream.proofs.next.Reads as next-reads
 
 abbrev Inv-loop : tie.InvT-loop
 Inv-loop bytes rows₀ store₀ text₀ offset₀ used₀ k₀ rows store text offset used k =
-    (length bytes ≤ 32768) × (length rows ≡ 3072) × (length store ≡ 4096) × (length text ≡ 327680)
-    × (offset ≤ length bytes) × (1 ≤ k) × (8 * k ≤ offset + 8) × (used + 79 ≤ 79 * k)
+    (length bytes ≤ inputLimit) × (length rows ≡ rowRoom) × (length store ≡ storeRoom) × (length text ≡ textRoom)
+    × (offset ≤ length bytes) × (1 ≤ k) × (8 * k ≤ offset + 8) × (used + lineRoom ≤ lineRoom * k)
     × (take used text ++ textFrom (length bytes + 2 - k) bytes offset k ≡ textOf bytes)
 
 abbrev μ-loop : tie.MeasureT-loop

@@ -1,0 +1,18 @@
+-- The sizes of the program, each named once.
+use Prim.Native.Nat.{ℕ}
+
+-- "over 32,768 bytes it prints `too long`"
+abbrev pub inputLimit : ℕ
+inputLimit = 32768
+
+-- a number of 64 bits has at most 20 digits
+abbrev pub digitRoom : ℕ
+digitRoom = 20
+
+-- the longest line has three labels of 18 bytes, three numbers and a newline
+abbrev pub lineRoom : ℕ
+lineRoom = 79
+
+-- lines for the 4,096 lists of 8 bytes that the input may hold, and the last line
+abbrev pub textRoom : ℕ
+textRoom = 327680
