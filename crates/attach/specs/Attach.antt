@@ -21,9 +21,11 @@ use Rattle.table.specs.declared.Update.{Update}
 abbrev pub deviceIn : List ℕ → ℕ
 deviceIn payload = getD payload 0 0
 
+-- the second byte
 abbrev pub yearIn : List ℕ → ℕ
 yearIn payload = getD payload 1 0
 
+-- the eight bytes behind it, as one number, low byte first
 abbrev pub uidIn : List ℕ → ℕ
 uidIn payload = numberAt 8 payload 2
 
@@ -31,6 +33,7 @@ uidIn payload = numberAt 8 payload 2
 unfoldable pub uidElsewhere : ℕ → ℕ → Slot → Bool
 uidElsewhere socket uid s = s .taken && (not (eqb (s .socket) socket) && eqb (s .uid) uid)
 
+-- no other socket's device has the UID
 unfoldable pub uidFree : Table → ℕ → ℕ → Bool
 uidFree t socket uid = every slotCount (λ i. not (uidElsewhere socket uid (slotAt t i)))
 
@@ -39,6 +42,7 @@ abbrev pub orFree : Table → Place → Place
 orFree t (At i) = At i
 orFree t Nowhere = freeOf t
 
+-- the slot that an ACK is for
 abbrev pub placeFor : Table → ℕ → Place
 placeFor t socket = orFree t (slotOf t socket)
 
@@ -63,10 +67,11 @@ abbrev pub emptied : Table → Place → Update
 emptied t (At i) = accepted (withSlot t i emptySlot)
 emptied t Nowhere = refused t 15
 
--- "Leaving: 11, 9, 10, 15"
+-- 11, 9 and 10 come first
 abbrev pub ifAdmitted : Answer → Table → Update → Update
 ifAdmitted Accepted t u = u
 ifAdmitted (Refused n) t u = refused t n
 
+-- "Leaving: 11, 9, 10, 15"
 unfoldable pub detached : List ℕ → Table → ℕ → Update
 detached c t socket = ifAdmitted (admitted c t socket) t (emptied t (slotOf t socket))

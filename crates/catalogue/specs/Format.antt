@@ -24,6 +24,7 @@ typeCount s = getD s 0 0
 abbrev pub typeNumber : List ℕ → ℕ → ℕ
 typeNumber s i = getD s (1 + 2 * i) 0
 
+-- its second byte, "number of parameters"
 abbrev pub parameterCount : List ℕ → ℕ → ℕ
 parameterCount s i = getD s (2 + 2 * i) 0
 

@@ -20,9 +20,11 @@ unfoldable pub deviceFrom : ℕ → List ℕ → ℕ → ℕ → Device
 deviceFrom zero s number i = noDevice
 deviceFrom (suc n) s number i = cond (eqb (typeNumber s i) number) (deviceAt s i) (deviceFrom n s number (i + 1))
 
+-- the device type of this number
 abbrev pub deviceOf : List ℕ → ℕ → Device
 deviceOf s number = deviceFrom (typeCount s) s number 0
 
+-- no such parameter: neither readable nor writable
 abbrev pub noParameter : Parameter
 noParameter = record { known = false; kind = kindInt; readable = false; writable = false }
 

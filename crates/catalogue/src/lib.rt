@@ -3,7 +3,7 @@ ghost use Prim.Native.Nat.{_+_, _*_, _≤_};
 ghost use mathlib.Core.Path.{_≡_};
 ghost use lib.ListN.{getD};
 ghost use Rattle.wire.specs.Every.{every};
-ghost use Rattle.catalogue.specs.Format.{typeLegal, parametersBefore, parameterLegal, described, legal};
+ghost use Rattle.catalogue.specs.Format.{maxTypes, typeLegal, parametersBefore, parameterLegal, described, legal};
 ghost use Rattle.catalogue.specs.Lookup.{deviceOf, parameterOf};
 
 // The most device types, and the most parameters of one type.
@@ -41,7 +41,7 @@ fn number_at(s: &[u8], at: usize) -> usize
 
 // Device type i: its number of parameters, and that its number is above the last one's.
 fn is_legal_type(s: &[u8], i: usize) -> bool
-    requires { ⌜ i ≤ 32 ⌝ }
+    requires { ⌜ i ≤ maxTypes ⌝ }
     ensures { λ r. ⌜ r ≡ typeLegal (now (s .entry)) i ⌝ }
 {
     let n = wire::byte_at(s, 2 + 2 * i);
@@ -57,7 +57,7 @@ fn is_legal_type(s: &[u8], i: usize) -> bool
 }
 
 fn are_legal_types(s: &[u8], n: usize) -> bool
-    requires { ⌜ n ≤ 32 ⌝ }
+    requires { ⌜ n ≤ maxTypes ⌝ }
     ensures { λ r. ⌜ r ≡ every n (typeLegal (now (s .entry))) ⌝ }
 {
     let mut i = 0;
@@ -73,7 +73,7 @@ fn are_legal_types(s: &[u8], n: usize) -> bool
 
 // How many parameters the first n device types have.
 fn parameters_before(s: &[u8], n: usize) -> usize
-    requires { ⌜ n ≤ 32 ⌝ }
+    requires { ⌜ n ≤ maxTypes ⌝ }
     ensures { λ r. ⌜ (r ≡ parametersBefore (now (s .entry)) n) × (r ≤ 255 * n) ⌝ }
 {
     let mut i = 0;
@@ -96,7 +96,7 @@ fn is_legal_parameter(b: u8) -> bool
 
 // The n parameter bytes from an offset on.
 fn are_legal_parameters(s: &[u8], from: usize, n: usize) -> bool
-    requires { ⌜ (from ≤ 67) × (n ≤ 8160) ⌝ }
+    requires { ⌜ (from ≤ 3 + 2 * maxTypes) × (n ≤ 255 * maxTypes) ⌝ }
     ensures { λ r. ⌜ r ≡ every n (λ k. parameterLegal (getD (now (s .entry)) (from + k) 0)) ⌝ }
 {
     let mut i = 0;
@@ -134,7 +134,7 @@ pub fn is_legal(s: &[u8]) -> bool
 }
 
 fn locate(s: &[u8], number: u8) -> Device
-    ensures { λ r. ⌜ (r ≡ deviceOf (now (s .entry)) number) × (r .first ≤ 65025) × (r .parameters ≤ 255) ⌝ }
+    ensures { λ r. ⌜ (r ≡ deviceOf (now (s .entry)) number) × (r .first ≤ 255 * 255) × (r .parameters ≤ 255) ⌝ }
 {
     let n = number_at(s, 0);
     let mut left = n;

@@ -18,13 +18,18 @@ use Rattle.table.specs.declared.Answer.the-variants.{Accepted, Refused}
 use Rattle.table.specs.declared.Update.{Update}
 
 -- "a 32-bit map, low byte first"
+abbrev pub mapBytes : ℕ
+mapBytes = 4
+
+-- the map stands in front
 abbrev pub mapOf : List ℕ → ℕ
-mapOf payload = numberAt 4 payload 0
+mapOf payload = numberAt mapBytes payload 0
 
 -- "bit i for parameter i"
 abbrev pub bitOf : ℕ → ℕ → ℕ
 bitOf map p = map / 2 ^ p % 2
 
+-- the map names the parameter: its bit is set
 abbrev pub named : ℕ → ℕ → Bool
 named map p = eqb (bitOf map p) 1
 
@@ -34,11 +39,11 @@ width kind = cond (eqb kind kindInt) 4 (cond (eqb kind kindFloat) 4 1)
 
 -- a value is there where its bit is set
 abbrev pub spanIf : List ℕ → ℕ → ℕ → Bool → ℕ
-spanIf c device p set = cond set (width (parameterOf c device p .kind)) 0
+spanIf c device p isNamed = cond isNamed (width (parameterOf c device p .kind)) 0
 
 -- "then the values of the set bits in rising order with nothing between": where parameter p's value starts
 unfoldable pub offsetOf : List ℕ → ℕ → ℕ → ℕ → ℕ
-offsetOf c device map zero = 4
+offsetOf c device map zero = mapBytes
 offsetOf c device map (suc p) = offsetOf c device map p + spanIf c device p (named map p)
 
 -- the value that a payload has for parameter p: its bytes, "low byte first"
@@ -47,8 +52,9 @@ valueIn c device map payload p = numberAt (width (parameterOf c device p .kind))
 
 -- 16, "a set bit has no readable parameter"
 abbrev pub readableIf : List ℕ → ℕ → ℕ → Bool → Bool
-readableIf c device p set = not set || parameterOf c device p .readable
+readableIf c device p isNamed = not isNamed || parameterOf c device p .readable
 
+-- 16 is judged over all set bits
 unfoldable pub allReadable : List ℕ → ℕ → ℕ → Bool
 allReadable c device map = every paramCount (λ p. readableIf c device p (named map p))
 
@@ -58,8 +64,9 @@ sizeOf c device map = offsetOf c device map paramCount
 
 -- 18, "BOOL neither 0 nor 1"
 abbrev pub flagIf : List ℕ → ℕ → ℕ → Bool → ℕ → Bool
-flagIf c device p set bits = not (set && eqb (parameterOf c device p .kind) kindBool) || leb bits 1
+flagIf c device p isNamed bits = not (isNamed && eqb (parameterOf c device p .kind) kindBool) || leb bits 1
 
+-- 18 is judged over all set bits
 unfoldable pub allFlags : List ℕ → ℕ → ℕ → List ℕ → Bool
 allFlags c device map payload = every paramCount (λ p. flagIf c device p (named map p) (valueIn c device map payload p))
 
@@ -85,8 +92,9 @@ withValue s p bits =
       bits = set (s .bits) p bits;
     }
 
+-- "the named values and no others", for one parameter
 abbrev pub storeIf : Bool → Slot → ℕ → ℕ → Slot
-storeIf named s p bits = cond named (withValue s p bits) s
+storeIf isNamed s p bits = cond isNamed (withValue s p bits) s
 
 -- the row with the payload's values of the first n parameters, where the map names them
 unfoldable pub storedTo : List ℕ → ℕ → ℕ → List ℕ → Slot → ℕ → Slot
@@ -98,10 +106,12 @@ storedTo c device map payload s (suc p) =
 abbrev pub stored : List ℕ → List ℕ → Slot → Slot
 stored c payload s = storedTo c (s .device) (mapOf payload) payload s paramCount
 
+-- "Table and lent areas keep their old contents" where the payload is refused
 abbrev pub appliedIf : Answer → Table → ℕ → Slot → Update
 appliedIf Accepted t i s = accepted (withSlot t i s)
 appliedIf (Refused number) t i s = refused t number
 
+-- judged by the seated type, then written
 unfoldable pub appliedTo : List ℕ → Table → List ℕ → ℕ → Update
 appliedTo c t payload i = appliedIf (judged c (slotAt t i .device) payload) t i (stored c payload (slotAt t i))
 
@@ -110,5 +120,6 @@ abbrev pub appliedAt : List ℕ → Table → List ℕ → Place → Update
 appliedAt c t payload (At i) = appliedTo c t payload i
 appliedAt c t payload Nowhere = refused t 15
 
+-- "for data 15, 16, 17, 18"
 unfoldable pub applied : List ℕ → Table → ℕ → List ℕ → Update
 applied c t socket payload = appliedAt c t payload (slotOf t socket)

@@ -28,10 +28,11 @@ abbrev pub contentAt : List ℕ → Table → ℕ → Place → Reading
 contentAt c t index (At i) = Found (contentOf c (slotAt t i) index)
 contentAt c t index Nowhere = Refused 15
 
--- as leaving is judged: 11, 9, 10, 15
+-- 11, 9 and 10 come first
 abbrev pub readIf : Answer → Reading → Reading
 readIf answer.Accepted r = r
 readIf (answer.Refused number) r = Refused number
 
+-- one parameter of a socket's device, judged as leaving is: 11, 9, 10, 15
 unfoldable pub readOf : List ℕ → Table → ℕ → ℕ → Reading
 readOf c t socket index = readIf (admitted c t socket) (contentAt c t index (slotOf t socket))

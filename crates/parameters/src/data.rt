@@ -10,6 +10,7 @@ ghost use mathlib.Core.Path.{_≡_};
 ghost use lib.Dec.{eqb};
 ghost use Rattle.wire.specs.Number.{numberAt};
 ghost use Rattle.catalogue.specs.Lookup.{parameterOf};
+ghost use Rattle.table.specs.Slots.{slotCount, paramCount};
 ghost use Rattle.parameters.specs.Data.{width, spanIf, sizeOf, readableIf, allReadable, flagIf, allFlags, judged, withValue, storeIf, storedTo, appliedTo, applied};
 
 // The bytes before the first value: the map's.
@@ -143,7 +144,7 @@ fn judge(c: &[u8], device: u8, payload: &[u8]) -> Answer
 }
 
 fn put_value(s: Slot, p: usize, v: u32) -> Slot
-    requires { ⌜ p < 32 ⌝ }
+    requires { ⌜ p < paramCount ⌝ }
     ensures { λ r. ⌜ r ≡ withValue s p v ⌝ }
 {
     let mut t = s;
@@ -153,7 +154,7 @@ fn put_value(s: Slot, p: usize, v: u32) -> Slot
 }
 
 fn store_if(c: &[u8], device: u8, p: usize, bit: u32, payload: &[u8], at: usize, s: Slot) -> Slot
-    requires { ⌜ p < 32 ⌝ }
+    requires { ⌜ p < paramCount ⌝ }
     ensures { λ r. ⌜ r ≡ storeIf (eqb bit 1) s p (numberAt (width (parameterOf (now (c .entry)) device p .kind)) (now (payload .entry)) at) ⌝ }
 {
     if bit == 1 {
@@ -166,7 +167,7 @@ fn store_if(c: &[u8], device: u8, p: usize, bit: u32, payload: &[u8], at: usize,
 
 // The row with the values that the payload has.
 fn store(c: &[u8], device: u8, map: u32, payload: &[u8], s: Slot) -> Slot
-    ensures { λ r. ⌜ r ≡ storedTo (now (c .entry)) device map (now (payload .entry)) s 32 ⌝ }
+    ensures { λ r. ⌜ r ≡ storedTo (now (c .entry)) device map (now (payload .entry)) s paramCount ⌝ }
 {
     let mut t = s;
     let mut rest = map;
@@ -182,7 +183,7 @@ fn store(c: &[u8], device: u8, map: u32, payload: &[u8], s: Slot) -> Slot
 }
 
 fn apply_at(c: &[u8], t: Table, i: usize, payload: &[u8]) -> Update
-    requires { ⌜ i < 4 ⌝ }
+    requires { ⌜ i < slotCount ⌝ }
     ensures { λ r. ⌜ r ≡ appliedTo (now (c .entry)) t (now (payload .entry)) i ⌝ }
 {
     let s = t.slots[i];

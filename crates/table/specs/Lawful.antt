@@ -20,6 +20,7 @@ use Rattle.table.specs.declared.Answer.the-variants.{Accepted, Refused}
 abbrev pub presentAt : Slot → ℕ → Bool
 presentAt s p = getD (s .present) p false
 
+-- the bits of a held value, "absent values .. as zeros"
 abbrev pub bitsAt : Slot → ℕ → ℕ
 bitsAt s p = getD (s .bits) p 0
 
@@ -54,9 +55,11 @@ pub record Lawful (c : List ℕ) (t : Table) : Type 0 where
 unfoldable pub valueLawful : Parameter → Bool → ℕ → Bool
 valueLawful p present bits = cond present (p .readable && (not (eqb (p .kind) kindBool) || leb bits 1)) (eqb bits 0)
 
+-- the same of parameter p, by the catalogue's kind of it
 unfoldable pub heldLawful : List ℕ → Slot → ℕ → Bool
 heldLawful c s p = valueLawful (parameterOf c (s .device) p) (presentAt s p) (bitsAt s p)
 
+-- of an empty slot: parameter p is absent and its bits are 0
 unfoldable pub nothingHeld : Slot → ℕ → Bool
 nothingHeld s p = not (presentAt s p) && eqb (bitsAt s p) 0
 
@@ -70,6 +73,7 @@ slotLawful c s =
 unfoldable pub slotsDiffer : Slot → Slot → Bool
 slotsDiffer s t = not (s .taken && t .taken) || (not (eqb (s .socket) (t .socket)) && not (eqb (s .uid) (t .uid)))
 
+-- slot i by itself, and against the slots before it
 unfoldable pub lawfulAt : List ℕ → Table → ℕ → Bool
 lawfulAt c t i = slotLawful c (slotAt t i) && every i (λ j. slotsDiffer (slotAt t j) (slotAt t i))
 

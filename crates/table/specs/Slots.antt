@@ -1,4 +1,5 @@
--- The table and its slots ("Sockets are 0 to 7, seats four. A row holds socket, device type, year, UID and, for each of 32 parameters, absent or a value").
+-- The table and its slots ("Sockets are 0 to 7, seats four. A row holds socket, device type, year, UID and, for each of
+-- 32 parameters, absent or a value").
 use Prim.Native.Nat.{ℕ, zero, suc, _+_, _<_}
 use mathlib.Core.Path.{_≡_}
 use mathlib.Core.Bool.{Bool, false, _&&_, cond}
@@ -41,10 +42,11 @@ freshSlot taken socket device year uid =
 abbrev pub emptySlot : Slot
 emptySlot = freshSlot false 0 0 0 0
 
+-- the table at first
 abbrev pub emptyTable : Table
 emptyTable = record { slots = replicate slotCount emptySlot }
 
--- what the types say: each slot has 32 parameters, and there are four slots
+-- what the type of a slot says: "for each of 32 parameters"
 pub record ShapedSlot (s : Slot) : Type 0 where
   pub presents : length (s .present) ≡ paramCount
   pub words : length (s .bits) ≡ paramCount
@@ -53,9 +55,11 @@ pub record ShapedSlot (s : Slot) : Type 0 where
 abbrev pub noSlot : Slot
 noSlot = record { taken = false; socket = 0; device = 0; year = 0; uid = 0; present = []; bits = [] }
 
+-- the row in slot i
 abbrev pub slotAt : Table → ℕ → Slot
 slotAt t i = getD (t .slots) i noSlot
 
+-- what the type of a table says: "seats four"
 pub record Shaped (t : Table) : Type 0 where
   pub all-slots : length (t .slots) ≡ slotCount
   pub slots-shaped : (i : ℕ) → i < slotCount → ShapedSlot (slotAt t i)
@@ -73,6 +77,7 @@ unfoldable pub slotFrom : ℕ → Table → ℕ → ℕ → Place
 slotFrom zero t socket i = Nowhere
 slotFrom (suc n) t socket i = cond (holds (slotAt t i) socket) (At i) (slotFrom n t socket (i + 1))
 
+-- where the socket's device is
 abbrev pub slotOf : Table → ℕ → Place
 slotOf t socket = slotFrom slotCount t socket 0
 
@@ -81,6 +86,7 @@ unfoldable pub freeFrom : ℕ → Table → ℕ → Place
 freeFrom zero t i = Nowhere
 freeFrom (suc n) t i = cond (slotAt t i .taken) (freeFrom n t (i + 1)) (At i)
 
+-- the lowest empty slot of all
 abbrev pub freeOf : Table → Place
 freeOf t = freeFrom slotCount t 0
 
@@ -93,5 +99,6 @@ Within (At i) = i < slotCount
 abbrev pub refused : Table → ℕ → Update
 refused t n = record { answer = Refused n; table = t }
 
+-- accepted, with the table afterwards
 abbrev pub accepted : Table → Update
 accepted t = record { answer = Accepted; table = t }

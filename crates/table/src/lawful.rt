@@ -9,7 +9,7 @@ use catalogue::Parameter;
 ghost use Prim.Native.Nat.{_<_};
 ghost use mathlib.Core.Path.{_≡_};
 ghost use Rattle.wire.specs.Every.{every};
-ghost use Rattle.table.specs.Slots.{slotAt, paramCount};
+ghost use Rattle.table.specs.Slots.{slotCount, paramCount, slotAt};
 ghost use Rattle.table.specs.Lawful.{valueLawful, heldLawful, nothingHeld, slotLawful, slotsDiffer, lawfulAt, lawful, admitted};
 
 fn is_lawful_value(p: Parameter, present: bool, bits: u32) -> bool
@@ -99,7 +99,7 @@ fn do_slots_differ(s: Slot, t: Slot) -> bool
 
 // Slot i differs from each slot before it.
 fn differs_from_earlier(t: Table, i: usize) -> bool
-    requires { ⌜ i < 4 ⌝ }
+    requires { ⌜ i < slotCount ⌝ }
     ensures { λ r. ⌜ r ≡ every i (λ j. slotsDiffer (slotAt t j) (slotAt t i)) ⌝ }
 {
     let s = t.slots[i];
@@ -116,7 +116,7 @@ fn differs_from_earlier(t: Table, i: usize) -> bool
 }
 
 fn is_lawful_at(c: &[u8], t: Table, i: usize) -> bool
-    requires { ⌜ i < 4 ⌝ }
+    requires { ⌜ i < slotCount ⌝ }
     ensures { λ r. ⌜ r ≡ lawfulAt (now (c .entry)) t i ⌝ }
 {
     let s = t.slots[i];

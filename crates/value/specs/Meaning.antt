@@ -14,13 +14,15 @@ use Rattle.value.specs.declared.Value.the-variants.{Int, Float, Bool, Na
 abbrev pub intOf : ℕ → ℤ
 intOf bits = toZ w32 bits
 
--- the parts of a single: sign, the bits below it, fraction
+-- the sign of a single, 0 or 1
 abbrev pub signOf : ℕ → ℕ
 signOf bits = bits / 0x8000_0000
 
+-- the bits below the sign
 abbrev pub lowOf : ℕ → ℕ
 lowOf bits = bits % 0x8000_0000
 
+-- the fraction, 23 bits
 abbrev pub fractionOf : ℕ → ℕ
 fractionOf bits = bits % 0x80_0000
 

@@ -30,21 +30,45 @@ settle-requires c κs = c .find-place .ensures .1
 
 returns : tie.Need-returns
 unfolding acknowledged
-returns c = rw (← c .before .before .before .before .before .before .before .before .before .byte-at .ensures, ← c .before .before .before .before .before .before .before .before .byte-at2 .ensures, ← c .before .before .before .before .before .before .before .u64-at .ensures, ← c .before .before .before .before .before .before .find-device .ensures, c .before .before .before .before .before .if1 .taken, ← c .before .before .before .before .is-uid-free .ensures, c .before .before .before .if2 .taken, ← c .before .before .new-slot .ensures, ← c .before .find-place .ensures .0) (c .settle .ensures)
+returns c =
+    rw (
+      ← c .before .before .before .before .before .before .before .before .before .byte-at .ensures,
+      ← c .before .before .before .before .before .before .before .before .byte-at2 .ensures,
+      ← c .before .before .before .before .before .before .before .u64-at .ensures,
+      ← c .before .before .before .before .before .before .find-device .ensures,
+      c .before .before .before .before .before .if1 .taken,
+      ← c .before .before .before .before .is-uid-free .ensures,
+      c .before .before .before .if2 .taken,
+      ← c .before .before .new-slot .ensures,
+      ← c .before .find-place .ensures .0,
+    ) (c .settle .ensures)
 
 refuse-requires : tie.Need-refuse-requires
 refuse-requires c κs = search needs
 
 returns-2 : tie.Need-returns-2
 unfolding acknowledged
-returns-2 c = rw (← c .before .before .before .before .before .before .before .byte-at .ensures, ← c .before .before .before .before .before .u64-at .ensures, ← c .before .before .before .before .find-device .ensures, c .before .before .before .if1 .taken, ← c .before .before .is-uid-free .ensures, c .before .if2 .left) (c .refuse .ensures)
+returns-2 c =
+    rw (
+      ← c .before .before .before .before .before .before .before .byte-at .ensures,
+      ← c .before .before .before .before .before .u64-at .ensures,
+      ← c .before .before .before .before .find-device .ensures,
+      c .before .before .before .if1 .taken,
+      ← c .before .before .is-uid-free .ensures,
+      c .before .if2 .left,
+    ) (c .refuse .ensures)
 
 refuse-requires-2 : tie.Need-refuse-requires-2
 refuse-requires-2 c κs = search needs
 
 returns-3 : tie.Need-returns-3
 unfolding acknowledged
-returns-3 c = rw (← c .before .before .before .before .before .byte-at .ensures, ← c .before .before .find-device .ensures, c .before .if1 .left) (c .refuse2 .ensures)
+returns-3 c =
+    rw (
+      ← c .before .before .before .before .before .byte-at .ensures,
+      ← c .before .before .find-device .ensures,
+      c .before .if1 .left,
+    ) (c .refuse2 .ensures)
 
 pub acknowledge-spec : {M : Type 1} → statement M
 acknowledge-spec =

@@ -24,7 +24,12 @@ refuse-requires c κs = search needs
 
 returns : tie.Need-returns
 unfolding detached
-returns c = rw (← c .before .before .before .before .admit .ensures, c .before .before .enum-told .given .1, ← c .before .find-slot .ensures .0) (c .empty-place .ensures)
+returns c =
+    rw (
+      ← c .before .before .before .before .admit .ensures,
+      c .before .before .enum-told .given .1,
+      ← c .before .find-slot .ensures .0,
+    ) (c .empty-place .ensures)
 
 returns-2 : tie.Need-returns-2
 unfolding detached

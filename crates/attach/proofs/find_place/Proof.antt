@@ -17,7 +17,11 @@ free-slot-requires : tie.Need-free-slot-requires
 free-slot-requires c κs = search needs
 
 returns : tie.Need-returns
-returns c = rw (← c .before .before .before .find-slot .ensures .0, c .before .own .given .1) (refl, rw (c .before .own .given .1) at (c .before .before .before .find-slot .ensures .1))
+returns c =
+    rw (← c .before .before .before .find-slot .ensures .0, c .before .own .given .1) (
+      refl,
+      rw (c .before .own .given .1) at (c .before .before .before .find-slot .ensures .1),
+    )
 
 returns-2 : tie.Need-returns-2
 returns-2 c = rw (← c .before .before .before .find-slot .ensures .0, c .before .enum-told .given .1) (c .free-slot .ensures)

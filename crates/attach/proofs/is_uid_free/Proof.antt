@@ -32,7 +32,11 @@ is-elsewhere-requires c κs = search needs
 
 returns : tie.Need-returns Inv-loop μ-loop
 unfolding uidFree
-returns c = every-stop slotCount (c .before .before .before .before .loop .i) _ (c .before .before .before .loop-test .taken) (rw (← c .before .is-elsewhere .ensures, c .if1 .taken))
+returns c =
+    every-stop slotCount (c .before .before .before .before .loop .i) _ (c .before .before .before .loop-test .taken) (rw (
+      ← c .before .is-elsewhere .ensures,
+      c .if1 .taken,
+    ))
 
 add-i : tie.Need-add-i Inv-loop μ-loop
 add-i c = search needs
@@ -41,7 +45,10 @@ loop-less : tie.Need-loop-less Inv-loop μ-loop
 loop-less c = search needs
 
 loop-again : tie.Need-loop-again Inv-loop μ-loop
-loop-again c = (omega arith, every-more _ _ (c .before .before .before .before .loop .inv .1) (rw (← c .before .is-elsewhere .ensures, c .if1 .left)))
+loop-again c = (
+  omega arith,
+  every-more _ _ (c .before .before .before .before .loop .inv .1) (rw (← c .before .is-elsewhere .ensures, c .if1 .left)),
+)
 
 returns-2 : tie.Need-returns-2 Inv-loop μ-loop
 unfolding uidFree

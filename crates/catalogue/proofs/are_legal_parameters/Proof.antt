@@ -37,10 +37,14 @@ loop-less : tie.Need-loop-less Inv-loop μ-loop
 loop-less c = search needs
 
 loop-again : tie.Need-loop-again Inv-loop μ-loop
-loop-again c = (omega arith, every-more _ _ (c .before .before .before .before .loop .inv .1) (sym (c .before .is-legal-parameter .ensures ∙ ap parameterLegal (c .before .before .byte-at .ensures)) ∙ c .if1 .taken))
+loop-again c = (
+  omega arith,
+  every-more _ _ (c .before .before .before .before .loop .inv .1) (sym (c .before .is-legal-parameter .ensures ∙ ap parameterLegal (c .before .before .byte-at .ensures)) ∙ c .if1 .taken),
+)
 
 returns : tie.Need-returns Inv-loop μ-loop
-returns c = every-stop _ (c .before .before .before .before .loop .i) _ (c .before .before .before .loop-test .taken) (sym (c .before .is-legal-parameter .ensures ∙ ap parameterLegal (c .before .before .byte-at .ensures)) ∙ c .if1 .left)
+returns c =
+    every-stop _ (c .before .before .before .before .loop .i) _ (c .before .before .before .loop-test .taken) (sym (c .before .is-legal-parameter .ensures ∙ ap parameterLegal (c .before .before .byte-at .ensures)) ∙ c .if1 .left)
 
 returns-2 : tie.Need-returns-2 Inv-loop μ-loop
 returns-2 c = every-all _ _ _ (c .before .loop .inv .0) (c .loop-test .left) (c .before .loop .inv .1)

@@ -31,7 +31,13 @@ describe-requires c κs = search needs
 
 returns : tie.Need-returns
 unfolding parameterOf
-returns c = rw (← c .before .before .before .before .before .before .locate .ensures .0, lt-ltb _ _ (c .before .before .before .before .if1 .taken), ← c .before .before .before .number-at .ensures .0, ← c .before .byte-at .ensures) (c .describe .ensures)
+returns c =
+    rw (
+      ← c .before .before .before .before .before .before .locate .ensures .0,
+      lt-ltb _ _ (c .before .before .before .before .if1 .taken),
+      ← c .before .before .before .number-at .ensures .0,
+      ← c .before .byte-at .ensures,
+    ) (c .describe .ensures)
 
 returns-2 : tie.Need-returns-2
 unfolding parameterOf

@@ -17,7 +17,13 @@ are-legal-types-requires c κs = search needs
 
 returns-2 : tie.Need-returns-2
 unfolding legal
-returns-2 c = rw (← c .before .before .before .number-at .ensures .0, le-leb _ _ (c .before .before .if1 .left), ← c .before .are-legal-types .ensures, not-true (c .before .are-legal-types .result) (c .if2 .taken))
+returns-2 c =
+    rw (
+      ← c .before .before .before .number-at .ensures .0,
+      le-leb _ _ (c .before .before .if1 .left),
+      ← c .before .are-legal-types .ensures,
+      not-true (c .before .are-legal-types .result) (c .if2 .taken),
+    )
 
 parameters-before-requires : tie.Need-parameters-before-requires
 parameters-before-requires c κs = search needs
@@ -36,7 +42,16 @@ cast-if3 c = search needs
 
 returns-3 : tie.Need-returns-3
 unfolding legal
-returns-3 c = rw (← c .before .before .before .before .before .before .number-at .ensures .0, le-leb _ _ (c .before .before .before .before .before .if1 .left), ← c .before .before .before .before .are-legal-types .ensures, not-false (c .before .before .before .before .are-legal-types .result) (c .before .before .before .if2 .left), ← c .before .before .parameters-before .ensures .0, ← c .before .u16-at .ensures, ne-eqb _ _ (c .if3 .taken))
+returns-3 c =
+    rw (
+      ← c .before .before .before .before .before .before .number-at .ensures .0,
+      le-leb _ _ (c .before .before .before .before .before .if1 .left),
+      ← c .before .before .before .before .are-legal-types .ensures,
+      not-false (c .before .before .before .before .are-legal-types .result) (c .before .before .before .if2 .left),
+      ← c .before .before .parameters-before .ensures .0,
+      ← c .before .u16-at .ensures,
+      ne-eqb _ _ (c .if3 .taken),
+    )
 
 mul-are-legal-parameters : tie.Need-mul-are-legal-parameters
 mul-are-legal-parameters c = search needs
@@ -49,7 +64,18 @@ are-legal-parameters-requires c κs = search needs
 
 returns-4 : tie.Need-returns-4
 unfolding legal
-returns-4 c = rw (← c .before .before .before .before .before .before .before .before .number-at .ensures .0, le-leb _ _ (c .before .before .before .before .before .before .before .if1 .left), ← c .before .before .before .before .before .before .are-legal-types .ensures, not-false (c .before .before .before .before .before .before .are-legal-types .result) (c .before .before .before .before .before .if2 .left), ← c .before .before .before .before .parameters-before .ensures .0, ← c .before .before .before .u16-at .ensures, eq-eqb _ _ (c .before .before .if3 .left), ← c .before .are-legal-parameters .ensures, not-true (c .before .are-legal-parameters .result) (c .if4 .taken))
+returns-4 c =
+    rw (
+      ← c .before .before .before .before .before .before .before .before .number-at .ensures .0,
+      le-leb _ _ (c .before .before .before .before .before .before .before .if1 .left),
+      ← c .before .before .before .before .before .before .are-legal-types .ensures,
+      not-false (c .before .before .before .before .before .before .are-legal-types .result) (c .before .before .before .before .before .if2 .left),
+      ← c .before .before .before .before .parameters-before .ensures .0,
+      ← c .before .before .before .u16-at .ensures,
+      eq-eqb _ _ (c .before .before .if3 .left),
+      ← c .before .are-legal-parameters .ensures,
+      not-true (c .before .are-legal-parameters .result) (c .if4 .taken),
+    )
 
 mul-result : tie.Need-mul-result
 mul-result c = search needs
@@ -62,7 +88,18 @@ add-result-2 c = search needs
 
 returns-5 : tie.Need-returns-5
 unfolding legal
-returns-5 c = rw (← c .before .before .before .before .before .before .before .before .number-at .ensures .0, le-leb _ _ (c .before .before .before .before .before .before .before .if1 .left), ← c .before .before .before .before .before .before .are-legal-types .ensures, not-false (c .before .before .before .before .before .before .are-legal-types .result) (c .before .before .before .before .before .if2 .left), ← c .before .before .before .before .parameters-before .ensures .0, ← c .before .before .before .u16-at .ensures, eq-eqb _ _ (c .before .before .if3 .left), ← c .before .are-legal-parameters .ensures, not-false (c .before .are-legal-parameters .result) (c .if4 .left))
+returns-5 c =
+    rw (
+      ← c .before .before .before .before .before .before .before .before .number-at .ensures .0,
+      le-leb _ _ (c .before .before .before .before .before .before .before .if1 .left),
+      ← c .before .before .before .before .before .before .are-legal-types .ensures,
+      not-false (c .before .before .before .before .before .before .are-legal-types .result) (c .before .before .before .before .before .if2 .left),
+      ← c .before .before .before .before .parameters-before .ensures .0,
+      ← c .before .before .before .u16-at .ensures,
+      eq-eqb _ _ (c .before .before .if3 .left),
+      ← c .before .are-legal-parameters .ensures,
+      not-false (c .before .are-legal-parameters .result) (c .if4 .left),
+    )
 
 pub is-legal-spec : {M : Type 1} → statement M
 is-legal-spec =

@@ -45,7 +45,14 @@ byte-at-requires-3 c κs = search needs
 
 returns-3 : tie.Need-returns-3
 unfolding typeLegal
-returns-3 c = rw (← c .before .before .before .before .byte-at .ensures, ← c .before .byte-at2 .ensures, ← c .byte-at3 .ensures, le-leb _ _ (c .before .before .before .if1 .left), ne-eqb _ _ (c .before .before .if2 .left))
+returns-3 c =
+    rw (
+      ← c .before .before .before .before .byte-at .ensures,
+      ← c .before .byte-at2 .ensures,
+      ← c .byte-at3 .ensures,
+      le-leb _ _ (c .before .before .before .if1 .left),
+      ne-eqb _ _ (c .before .before .if2 .left),
+    )
 
 pub is-legal-type-spec : {M : Type 1} → statement M
 is-legal-type-spec =

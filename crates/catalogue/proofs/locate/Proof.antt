@@ -11,7 +11,8 @@ use Rattle.catalogue.proofs.locate.Statement.{statement}
 use Rattle.catalogue.proofs.locate.Tie as tie
 
 abbrev Inv-loop : tie.InvT-loop
-Inv-loop s number n left₀ i₀ first₀ left i first = (i + left ≡ n) × (first ≡ parametersBefore s i) × (first ≤ 255 * i) × (deviceFrom n s number 0 ≡ deviceFrom left s number i)
+Inv-loop s number n left₀ i₀ first₀ left i first =
+    (i + left ≡ n) × (first ≡ parametersBefore s i) × (first ≤ 255 * i) × (deviceFrom n s number 0 ≡ deviceFrom left s number i)
 
 abbrev μ-loop : tie.MeasureT-loop
 μ-loop s number n left₀ i₀ first₀ left i first = left
@@ -42,7 +43,19 @@ byte-at-requires : tie.Need-byte-at-requires Inv-loop μ-loop
 byte-at-requires c κs = search needs
 
 returns : tie.Need-returns Inv-loop μ-loop
-returns c = (rw (← c .before .before .before .before .before .number-at .ensures .0, c .before .before .before .before .loop .inv .3, device-step _ _ _ _ (c .before .before .before .loop-test .taken), ← c .before .byte-at .ensures, eq-eqb _ _ (c .if1 .taken), ← c .before .before .before .before .loop .inv .1, ← c .before .before .number-at2 .ensures .0), omega arith, omega arith)
+returns c = (
+  rw (
+    ← c .before .before .before .before .before .number-at .ensures .0,
+    c .before .before .before .before .loop .inv .3,
+    device-step _ _ _ _ (c .before .before .before .loop-test .taken),
+    ← c .before .byte-at .ensures,
+    eq-eqb _ _ (c .if1 .taken),
+    ← c .before .before .before .before .loop .inv .1,
+    ← c .before .before .number-at2 .ensures .0,
+  ),
+  omega arith,
+  omega arith,
+)
 
 add-first : tie.Need-add-first Inv-loop μ-loop
 add-first c = search needs
@@ -57,7 +70,16 @@ loop-less : tie.Need-loop-less Inv-loop μ-loop
 loop-less c = search needs
 
 loop-again : tie.Need-loop-again Inv-loop μ-loop
-loop-again c = (omega arith, rw (parameters-more, ← c .before .before .number-at2 .ensures .0, ← c .before .before .before .before .loop .inv .1), omega arith, c .before .before .before .before .loop .inv .3 ∙ rw (device-step _ _ _ _ (c .before .before .before .loop-test .taken), ← c .before .byte-at .ensures, ne-eqb _ _ (c .if1 .left)))
+loop-again c = (
+  omega arith,
+  rw (parameters-more, ← c .before .before .number-at2 .ensures .0, ← c .before .before .before .before .loop .inv .1),
+  omega arith,
+  c .before .before .before .before .loop .inv .3 ∙ rw (
+    device-step _ _ _ _ (c .before .before .before .loop-test .taken),
+    ← c .before .byte-at .ensures,
+    ne-eqb _ _ (c .if1 .left),
+  ),
+)
 
 returns-2 : tie.Need-returns-2 Inv-loop μ-loop
 unfolding deviceFrom

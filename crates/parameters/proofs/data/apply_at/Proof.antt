@@ -36,7 +36,13 @@ refuse-requires c κs = search needs
 
 returns : tie.Need-returns
 unfolding appliedTo
-returns c = rw (← c .before .before .before .before .judge .ensures, c .before .before .enum-told .given .1, ← c .before .u32-at .ensures, c .store .ensures)
+returns c =
+    rw (
+      ← c .before .before .before .before .judge .ensures,
+      c .before .before .enum-told .given .1,
+      ← c .before .u32-at .ensures,
+      c .store .ensures,
+    )
 
 returns-2 : tie.Need-returns-2
 unfolding appliedTo

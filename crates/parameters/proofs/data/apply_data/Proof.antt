@@ -21,7 +21,8 @@ refuse-requires c κs = search needs
 
 returns : tie.Need-returns
 unfolding applied
-returns c = rw (← c .before .before .before .before .find-slot .ensures .0, c .before .before .p .given .1) (c .apply-at .ensures)
+returns c =
+    rw (← c .before .before .before .before .find-slot .ensures .0, c .before .before .p .given .1) (c .apply-at .ensures)
 
 returns-2 : tie.Need-returns-2
 unfolding applied

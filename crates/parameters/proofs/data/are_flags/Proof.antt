@@ -1,4 +1,5 @@
--- `parameters::data::are_flags` meets its contract. Invariant: the first p values are flags where they must be, `at` is where parameter p's value starts, and `rest` is the map without the bits below p.
+-- `parameters::data::are_flags` meets its contract. Invariant: the first p values are flags where they must be, `at` is
+-- where parameter p's value starts, and `rest` is the map without the bits below p.
 use Prim.Native.Nat.{_+_, _*_, _-_, _/_, _^_, _≤_}
 use mathlib.Core.Bool.{true}
 use mathlib.Core.Path.{_≡_, refl, sym, _∙_}
@@ -13,7 +14,8 @@ use Rattle.parameters.proofs.data.are_flags.Statement.{statement}
 use Rattle.parameters.proofs.data.are_flags.Tie as tie
 
 abbrev Inv-loop : tie.InvT-loop
-Inv-loop c device map payload rest₀ at₀ p₀ rest at p = (p ≤ paramCount) × (rest ≡ map / 2 ^ p) × (at ≡ offsetOf c device map p) × (at ≤ 4 + 4 * p) × (every p (λ q. flagIf c device q (named map q) (valueIn c device map payload q)) ≡ true)
+Inv-loop c device map payload rest₀ at₀ p₀ rest at p =
+    (p ≤ paramCount) × (rest ≡ map / 2 ^ p) × (at ≡ offsetOf c device map p) × (at ≤ 4 + 4 * p) × (every p (λ q. flagIf c device q (named map q) (valueIn c device map payload q)) ≡ true)
 
 abbrev μ-loop : tie.MeasureT-loop
 μ-loop c device map payload rest₀ at₀ p₀ rest at p = paramCount - p
@@ -38,11 +40,29 @@ loop-less : tie.Need-loop-less Inv-loop μ-loop
 loop-less c = search needs
 
 loop-again : tie.Need-loop-again Inv-loop μ-loop
-loop-again c = (omega arith, rw (rest-more, ← c .before .before .before .before .loop .inv .1), rw (offset-more, ← c .before .before .before .before .loop .inv .1, ← c .span-if .ensures .0, ← c .before .before .before .before .loop .inv .2), omega arith, every-more _ _ (c .before .before .before .before .loop .inv .4) (rw (← c .before .before .before .before .loop .inv .1, ← c .before .before .before .before .loop .inv .2) (sym (c .before .before .is-flag-if .ensures) ∙ c .before .if1 .taken)))
+loop-again c = (
+  omega arith,
+  rw (rest-more, ← c .before .before .before .before .loop .inv .1),
+  rw (
+    offset-more,
+    ← c .before .before .before .before .loop .inv .1,
+    ← c .span-if .ensures .0,
+    ← c .before .before .before .before .loop .inv .2,
+  ),
+  omega arith,
+  every-more _ _ (c .before .before .before .before .loop .inv .4) (rw (
+    ← c .before .before .before .before .loop .inv .1,
+    ← c .before .before .before .before .loop .inv .2,
+  ) (sym (c .before .before .is-flag-if .ensures) ∙ c .before .if1 .taken)),
+)
 
 returns : tie.Need-returns Inv-loop μ-loop
 unfolding allFlags
-returns c = every-stop paramCount (c .before .before .before .loop .p) _ (c .before .before .loop-test .taken) (rw (← c .before .before .before .loop .inv .1, ← c .before .before .before .loop .inv .2) (sym (c .before .is-flag-if .ensures) ∙ c .if1 .left))
+returns c =
+    every-stop paramCount (c .before .before .before .loop .p) _ (c .before .before .loop-test .taken) (rw (
+      ← c .before .before .before .loop .inv .1,
+      ← c .before .before .before .loop .inv .2,
+    ) (sym (c .before .is-flag-if .ensures) ∙ c .if1 .left))
 
 returns-2 : tie.Need-returns-2 Inv-loop μ-loop
 unfolding allFlags

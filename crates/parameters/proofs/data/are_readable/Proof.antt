@@ -1,4 +1,5 @@
--- `parameters::data::are_readable` meets its contract. Invariant: the first p parameters are readable where they are named, and `rest` is the map without their bits.
+-- `parameters::data::are_readable` meets its contract. Invariant: the first p parameters are readable where they are
+-- named, and `rest` is the map without their bits.
 use Prim.Native.Nat.{_-_, _/_, _^_, _≤_}
 use mathlib.Core.Bool.{true}
 use mathlib.Core.Path.{_≡_, refl, sym, _∙_}
@@ -13,7 +14,8 @@ use Rattle.parameters.proofs.data.are_readable.Statement.{statement}
 use Rattle.parameters.proofs.data.are_readable.Tie as tie
 
 abbrev Inv-loop : tie.InvT-loop
-Inv-loop c device map rest₀ p₀ rest p = (p ≤ paramCount) × (rest ≡ map / 2 ^ p) × (every p (λ q. readableIf c device q (named map q)) ≡ true)
+Inv-loop c device map rest₀ p₀ rest p =
+    (p ≤ paramCount) × (rest ≡ map / 2 ^ p) × (every p (λ q. readableIf c device q (named map q)) ≡ true)
 
 abbrev μ-loop : tie.MeasureT-loop
 μ-loop c device map rest₀ p₀ rest p = paramCount - p
@@ -32,11 +34,16 @@ loop-less : tie.Need-loop-less Inv-loop μ-loop
 loop-less c = search needs
 
 loop-again : tie.Need-loop-again Inv-loop μ-loop
-loop-again c = (omega arith, rw (rest-more, ← c .before .before .before .loop .inv .1), every-more _ _ (c .before .before .before .loop .inv .2) (rw (← c .before .before .before .loop .inv .1) (sym (c .before .is-readable-if .ensures) ∙ c .if1 .taken)))
+loop-again c = (
+  omega arith,
+  rw (rest-more, ← c .before .before .before .loop .inv .1),
+  every-more _ _ (c .before .before .before .loop .inv .2) (rw (← c .before .before .before .loop .inv .1) (sym (c .before .is-readable-if .ensures) ∙ c .if1 .taken)),
+)
 
 returns : tie.Need-returns Inv-loop μ-loop
 unfolding allReadable
-returns c = every-stop paramCount (c .before .before .before .loop .p) _ (c .before .before .loop-test .taken) (rw (← c .before .before .before .loop .inv .1) (sym (c .before .is-readable-if .ensures) ∙ c .if1 .left))
+returns c =
+    every-stop paramCount (c .before .before .before .loop .p) _ (c .before .before .loop-test .taken) (rw (← c .before .before .before .loop .inv .1) (sym (c .before .is-readable-if .ensures) ∙ c .if1 .left))
 
 returns-2 : tie.Need-returns-2 Inv-loop μ-loop
 unfolding allReadable

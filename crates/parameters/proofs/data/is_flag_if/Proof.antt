@@ -11,10 +11,21 @@ value-at-requires : tie.Need-value-at-requires
 value-at-requires c κs = search needs
 
 returns : tie.Need-returns
-returns c = rw (eq-eqb _ _ (c .before .before .before .before .if1 .taken), ← c .before .before .before .find-parameter .ensures, eq-eqb _ _ (c .before .if2 .taken), ← c .value-at .ensures)
+returns c =
+    rw (
+      eq-eqb _ _ (c .before .before .before .before .if1 .taken),
+      ← c .before .before .before .find-parameter .ensures,
+      eq-eqb _ _ (c .before .if2 .taken),
+      ← c .value-at .ensures,
+    )
 
 returns-2 : tie.Need-returns-2
-returns-2 c = rw (eq-eqb _ _ (c .before .before .before .if1 .taken), ← c .before .before .find-parameter .ensures, ne-eqb _ _ (c .if2 .left))
+returns-2 c =
+    rw (
+      eq-eqb _ _ (c .before .before .before .if1 .taken),
+      ← c .before .before .find-parameter .ensures,
+      ne-eqb _ _ (c .if2 .left),
+    )
 
 returns-3 : tie.Need-returns-3
 returns-3 c = rw (ne-eqb _ _ (c .if1 .left))

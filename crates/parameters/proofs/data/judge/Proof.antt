@@ -19,15 +19,40 @@ are-flags-requires c κs = search needs
 
 returns : tie.Need-returns
 unfolding judged
-returns c = rw (← c .before .before .before .before .before .before .u32-at .ensures, ← c .before .before .before .before .before .are-readable .ensures, c .before .before .before .before .if1 .taken, ← c .before .before .before .size-of .ensures, eq-eqb _ _ (c .before .before .if2 .taken), ← c .before .are-flags .ensures, c .if3 .taken)
+returns c =
+    rw (
+      ← c .before .before .before .before .before .before .u32-at .ensures,
+      ← c .before .before .before .before .before .are-readable .ensures,
+      c .before .before .before .before .if1 .taken,
+      ← c .before .before .before .size-of .ensures,
+      eq-eqb _ _ (c .before .before .if2 .taken),
+      ← c .before .are-flags .ensures,
+      c .if3 .taken,
+    )
 
 returns-2 : tie.Need-returns-2
 unfolding judged
-returns-2 c = rw (← c .before .before .before .before .before .before .u32-at .ensures, ← c .before .before .before .before .before .are-readable .ensures, c .before .before .before .before .if1 .taken, ← c .before .before .before .size-of .ensures, eq-eqb _ _ (c .before .before .if2 .taken), ← c .before .are-flags .ensures, c .if3 .left)
+returns-2 c =
+    rw (
+      ← c .before .before .before .before .before .before .u32-at .ensures,
+      ← c .before .before .before .before .before .are-readable .ensures,
+      c .before .before .before .before .if1 .taken,
+      ← c .before .before .before .size-of .ensures,
+      eq-eqb _ _ (c .before .before .if2 .taken),
+      ← c .before .are-flags .ensures,
+      c .if3 .left,
+    )
 
 returns-3 : tie.Need-returns-3
 unfolding judged
-returns-3 c = rw (← c .before .before .before .before .u32-at .ensures, ← c .before .before .before .are-readable .ensures, c .before .before .if1 .taken, ← c .before .size-of .ensures, ne-eqb _ _ (c .if2 .left))
+returns-3 c =
+    rw (
+      ← c .before .before .before .before .u32-at .ensures,
+      ← c .before .before .before .are-readable .ensures,
+      c .before .before .if1 .taken,
+      ← c .before .size-of .ensures,
+      ne-eqb _ _ (c .if2 .left),
+    )
 
 returns-4 : tie.Need-returns-4
 unfolding judged

@@ -1,4 +1,5 @@
--- `parameters::data::size_of` meets its contract. Invariant: `at` is where parameter p's value starts, and `rest` is the map without the bits below p.
+-- `parameters::data::size_of` meets its contract. Invariant: `at` is where parameter p's value starts, and `rest` is the
+-- map without the bits below p.
 use Prim.Native.Nat.{_+_, _*_, _-_, _/_, _^_, _≤_}
 use mathlib.Core.Path.{_≡_, refl, _∙_}
 use native.Mathlib.Omega.{arith}
@@ -10,7 +11,8 @@ use Rattle.parameters.proofs.data.size_of.Statement.{statement}
 use Rattle.parameters.proofs.data.size_of.Tie as tie
 
 abbrev Inv-loop : tie.InvT-loop
-Inv-loop c device map rest₀ at₀ p₀ rest at p = (p ≤ paramCount) × (rest ≡ map / 2 ^ p) × (at ≡ offsetOf c device map p) × (at ≤ 4 + 4 * p)
+Inv-loop c device map rest₀ at₀ p₀ rest at p =
+    (p ≤ paramCount) × (rest ≡ map / 2 ^ p) × (at ≡ offsetOf c device map p) × (at ≤ 4 + 4 * p)
 
 abbrev μ-loop : tie.MeasureT-loop
 μ-loop c device map rest₀ at₀ p₀ rest at p = paramCount - p
@@ -32,7 +34,12 @@ loop-less : tie.Need-loop-less Inv-loop μ-loop
 loop-less c = search needs
 
 loop-again : tie.Need-loop-again Inv-loop μ-loop
-loop-again c = (omega arith, rw (rest-more, ← c .before .before .loop .inv .1), rw (offset-more, ← c .before .before .loop .inv .1, ← c .span-if .ensures .0, ← c .before .before .loop .inv .2), omega arith)
+loop-again c = (
+  omega arith,
+  rw (rest-more, ← c .before .before .loop .inv .1),
+  rw (offset-more, ← c .before .before .loop .inv .1, ← c .span-if .ensures .0, ← c .before .before .loop .inv .2),
+  omega arith,
+)
 
 returns : tie.Need-returns Inv-loop μ-loop
 unfolding sizeOf

@@ -1,4 +1,5 @@
--- `parameters::data::store` meets its contract. Invariant: the row has the values of the first p parameters, `at` is where parameter p's value starts, and `rest` is the map without the bits below p.
+-- `parameters::data::store` meets its contract. Invariant: the row has the values of the first p parameters, `at` is where
+-- parameter p's value starts, and `rest` is the map without the bits below p.
 use Prim.Native.Nat.{_+_, _*_, _-_, _/_, _^_, _≤_}
 use mathlib.Core.Path.{_≡_, refl, _∙_}
 use native.Mathlib.Omega.{arith}
@@ -10,7 +11,8 @@ use Rattle.parameters.proofs.data.store.Statement.{statement}
 use Rattle.parameters.proofs.data.store.Tie as tie
 
 abbrev Inv-loop : tie.InvT-loop
-Inv-loop c device map payload t₀ rest₀ at₀ p₀ t rest at p = (p ≤ paramCount) × (rest ≡ map / 2 ^ p) × (at ≡ offsetOf c device map p) × (at ≤ 4 + 4 * p) × (t ≡ storedTo c device map payload t₀ p)
+Inv-loop c device map payload t₀ rest₀ at₀ p₀ t rest at p =
+    (p ≤ paramCount) × (rest ≡ map / 2 ^ p) × (at ≡ offsetOf c device map p) × (at ≤ 4 + 4 * p) × (t ≡ storedTo c device map payload t₀ p)
 
 abbrev μ-loop : tie.MeasureT-loop
 μ-loop c device map payload t₀ rest₀ at₀ p₀ t rest at p = paramCount - p
@@ -35,7 +37,23 @@ loop-less : tie.Need-loop-less Inv-loop μ-loop
 loop-less c = search needs
 
 loop-again : tie.Need-loop-again Inv-loop μ-loop
-loop-again c = (omega arith, rw (rest-more, ← c .before .before .before .loop .inv .1), rw (offset-more, ← c .before .before .before .loop .inv .1, ← c .span-if .ensures .0, ← c .before .before .before .loop .inv .2), omega arith, rw (stored-more, ← c .before .before .before .loop .inv .1, ← c .before .before .before .loop .inv .2, ← c .before .before .before .loop .inv .4) (c .before .store-if .ensures))
+loop-again c = (
+  omega arith,
+  rw (rest-more, ← c .before .before .before .loop .inv .1),
+  rw (
+    offset-more,
+    ← c .before .before .before .loop .inv .1,
+    ← c .span-if .ensures .0,
+    ← c .before .before .before .loop .inv .2,
+  ),
+  omega arith,
+  rw (
+    stored-more,
+    ← c .before .before .before .loop .inv .1,
+    ← c .before .before .before .loop .inv .2,
+    ← c .before .before .before .loop .inv .4,
+  ) (c .before .store-if .ensures),
+)
 
 returns : tie.Need-returns Inv-loop μ-loop
 returns c = let e : c .before .loop .p ≡ paramCount = omega arith in c .before .loop .inv .4 ∙ rw e

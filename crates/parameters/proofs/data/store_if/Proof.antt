@@ -14,7 +14,12 @@ put-value-requires : tie.Need-put-value-requires
 put-value-requires c κs = search needs
 
 returns : tie.Need-returns
-returns c = rw (eq-eqb _ _ (c .before .before .before .if1 .taken), ← c .before .before .find-parameter .ensures, ← c .before .value-at .ensures) (c .put-value .ensures)
+returns c =
+    rw (
+      eq-eqb _ _ (c .before .before .before .if1 .taken),
+      ← c .before .before .find-parameter .ensures,
+      ← c .before .value-at .ensures,
+    ) (c .put-value .ensures)
 
 returns-2 : tie.Need-returns-2
 returns-2 c = rw (ne-eqb _ _ (c .if1 .left))

@@ -29,7 +29,11 @@ cast-result c = search needs
 
 returns-3 : tie.Need-returns-3
 unfolding width
-returns-3 c = rw (ne-eqb _ _ (c .before .before .if1 .left), ne-eqb _ _ (c .before .if2 .left)) (c .byte-at .ensures ∙ sym (number-1 (c .before .before .before .before .args .payload .now) (c .before .before .before .before .args .at)))
+returns-3 c =
+    rw (
+      ne-eqb _ _ (c .before .before .if1 .left),
+      ne-eqb _ _ (c .before .if2 .left),
+    ) (c .byte-at .ensures ∙ sym (number-1 (c .before .before .before .before .args .payload .now) (c .before .before .before .before .args .at)))
 
 pub value-at-spec : {M : Type 1} → statement M
 value-at-spec =

@@ -21,7 +21,12 @@ enum-known-a c = search needs
 
 returns : tie.Need-returns
 unfolding readOf
-returns c = rw (← c .before .before .before .before .admit .ensures, c .before .before .enum-told .given .1, ← c .before .find-slot .ensures .0) (c .read-place .ensures)
+returns c =
+    rw (
+      ← c .before .before .before .before .admit .ensures,
+      c .before .before .enum-told .given .1,
+      ← c .before .find-slot .ensures .0,
+    ) (c .read-place .ensures)
 
 returns-2 : tie.Need-returns-2
 unfolding readOf

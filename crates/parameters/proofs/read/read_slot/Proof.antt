@@ -24,7 +24,12 @@ value-of-requires c κs = search needs
 
 returns : tie.Need-returns
 unfolding contentOf
-returns c = rw (lt-ltb _ _ (c .before .before .before .before .before .if1 .taken), c .before .before .before .if2 .taken, ← c .before .before .find-parameter .ensures) (ap Held (c .value-of .ensures))
+returns c =
+    rw (
+      lt-ltb _ _ (c .before .before .before .before .before .if1 .taken),
+      c .before .before .before .if2 .taken,
+      ← c .before .before .find-parameter .ensures,
+    ) (ap Held (c .value-of .ensures))
 
 returns-2 : tie.Need-returns-2
 unfolding contentOf

@@ -13,15 +13,35 @@ is-lawful-requires c κs = search needs
 
 returns : tie.Need-returns
 unfolding admitted
-returns c = rw (← c .before .before .before .before .is-legal .ensures, c .before .before .before .if1 .taken, ← c .before .before .is-lawful .ensures, c .before .if2 .taken, lt-ltb _ _ (c .if3 .taken))
+returns c =
+    rw (
+      ← c .before .before .before .before .is-legal .ensures,
+      c .before .before .before .if1 .taken,
+      ← c .before .before .is-lawful .ensures,
+      c .before .if2 .taken,
+      lt-ltb _ _ (c .if3 .taken),
+    )
 
 returns-2 : tie.Need-returns-2
 unfolding admitted
-returns-2 c = rw (← c .before .before .before .before .is-legal .ensures, c .before .before .before .if1 .taken, ← c .before .before .is-lawful .ensures, c .before .if2 .taken, le-ltb _ _ (c .if3 .left))
+returns-2 c =
+    rw (
+      ← c .before .before .before .before .is-legal .ensures,
+      c .before .before .before .if1 .taken,
+      ← c .before .before .is-lawful .ensures,
+      c .before .if2 .taken,
+      le-ltb _ _ (c .if3 .left),
+    )
 
 returns-3 : tie.Need-returns-3
 unfolding admitted
-returns-3 c = rw (← c .before .before .before .is-legal .ensures, c .before .before .if1 .taken, ← c .before .is-lawful .ensures, c .if2 .left)
+returns-3 c =
+    rw (
+      ← c .before .before .before .is-legal .ensures,
+      c .before .before .if1 .taken,
+      ← c .before .is-lawful .ensures,
+      c .if2 .left,
+    )
 
 returns-4 : tie.Need-returns-4
 unfolding admitted

@@ -44,11 +44,15 @@ loop-less c = search needs
 
 loop-again : tie.Need-loop-again Inv-loop μ-loop
 unfolding heldLawful
-loop-again c = (omega arith, every-more _ _ (c .before .before .before .before .before .before .loop .inv .1) (rw (← c .before .before .before .before .find-parameter .ensures) (sym (c .before .is-lawful-value .ensures) ∙ c .if1 .taken)))
+loop-again c = (
+  omega arith,
+  every-more _ _ (c .before .before .before .before .before .before .loop .inv .1) (rw (← c .before .before .before .before .find-parameter .ensures) (sym (c .before .is-lawful-value .ensures) ∙ c .if1 .taken)),
+)
 
 returns : tie.Need-returns Inv-loop μ-loop
 unfolding heldLawful
-returns c = every-stop paramCount (c .before .before .before .before .before .before .loop .i) _ (c .before .before .before .before .before .loop-test .taken) (rw (← c .before .before .before .before .find-parameter .ensures) (sym (c .before .is-lawful-value .ensures) ∙ c .if1 .left))
+returns c =
+    every-stop paramCount (c .before .before .before .before .before .before .loop .i) _ (c .before .before .before .before .before .loop-test .taken) (rw (← c .before .before .before .before .find-parameter .ensures) (sym (c .before .is-lawful-value .ensures) ∙ c .if1 .left))
 
 returns-2 : tie.Need-returns-2 Inv-loop μ-loop
 returns-2 c = every-all paramCount _ _ (c .before .loop .inv .0) (c .loop-test .left) (c .before .loop .inv .1)

@@ -6,11 +6,17 @@ use Rattle.table.proofs.lawful.do_slots_differ.Tie as tie
 
 returns : tie.Need-returns
 unfolding slotsDiffer
-returns c = rw (c .before .before .before .before .if1 .taken, c .before .before .before .if2 .taken, eq-eqb _ _ (c .if3 .taken))
+returns c =
+    rw (c .before .before .before .before .if1 .taken, c .before .before .before .if2 .taken, eq-eqb _ _ (c .if3 .taken))
 
 returns-2 : tie.Need-returns-2
 unfolding slotsDiffer
-returns-2 c = rw (c .before .before .before .before .before .before .if1 .taken, c .before .before .before .before .before .if2 .taken, ne-eqb _ _ (c .before .before .if3 .left))
+returns-2 c =
+    rw (
+      c .before .before .before .before .before .before .if1 .taken,
+      c .before .before .before .before .before .if2 .taken,
+      ne-eqb _ _ (c .before .before .if3 .left),
+    )
 
 returns-3 : tie.Need-returns-3
 unfolding slotsDiffer

@@ -1,4 +1,5 @@
--- `table::lawful::holds_nothing` meets its contract. Invariant: none of the first i parameters is held, and their bits are 0.
+-- `table::lawful::holds_nothing` meets its contract. Invariant: none of the first i parameters is held, and their bits are
+-- 0.
 use Prim.Native.Nat.{_-_, _≤_}
 use mathlib.Core.Bool.{true}
 use mathlib.Core.Path.{_≡_, refl}
@@ -27,7 +28,8 @@ element-copy-out-if1 c = search needs
 
 returns : tie.Need-returns Inv-loop μ-loop
 unfolding nothingHeld
-returns c = every-stop paramCount (c .before .before .before .loop .i) _ (c .before .before .loop-test .taken) (rw (c .if1 .taken))
+returns c =
+    every-stop paramCount (c .before .before .before .loop .i) _ (c .before .before .loop-test .taken) (rw (c .if1 .taken))
 
 mul-if2 : tie.Need-mul-if2 Inv-loop μ-loop
 mul-if2 c = search needs
@@ -37,7 +39,11 @@ element-copy-out-if2 c = search needs
 
 returns-2 : tie.Need-returns-2 Inv-loop μ-loop
 unfolding nothingHeld
-returns-2 c = every-stop paramCount (c .before .before .before .before .before .loop .i) _ (c .before .before .before .before .loop-test .taken) (rw (c .before .before .if1 .left, ne-eqb _ _ (c .if2 .taken)))
+returns-2 c =
+    every-stop paramCount (c .before .before .before .before .before .loop .i) _ (c .before .before .before .before .loop-test .taken) (rw (
+      c .before .before .if1 .left,
+      ne-eqb _ _ (c .if2 .taken),
+    ))
 
 add-i : tie.Need-add-i Inv-loop μ-loop
 add-i c = search needs
@@ -47,7 +53,13 @@ loop-less c = search needs
 
 loop-again : tie.Need-loop-again Inv-loop μ-loop
 unfolding nothingHeld
-loop-again c = (omega arith, every-more _ _ (c .before .before .before .before .before .loop .inv .1) (rw (c .before .before .if1 .left, eq-eqb _ _ (c .if2 .left))))
+loop-again c = (
+  omega arith,
+  every-more _ _ (c .before .before .before .before .before .loop .inv .1) (rw (
+    c .before .before .if1 .left,
+    eq-eqb _ _ (c .if2 .left),
+  )),
+)
 
 returns-3 : tie.Need-returns-3 Inv-loop μ-loop
 returns-3 c = every-all paramCount _ _ (c .before .loop .inv .0) (c .loop-test .left) (c .before .loop .inv .1)

@@ -31,11 +31,15 @@ loop-less : tie.Need-loop-less Inv-loop μ-loop
 loop-less c = search needs
 
 loop-again : tie.Need-loop-again Inv-loop μ-loop
-loop-again c = (omega arith, every-more _ _ (c .before .before .before .loop .inv .1) (sym (c .before .is-lawful-at .ensures) ∙ c .if1 .taken))
+loop-again c = (
+  omega arith,
+  every-more _ _ (c .before .before .before .loop .inv .1) (sym (c .before .is-lawful-at .ensures) ∙ c .if1 .taken),
+)
 
 returns : tie.Need-returns Inv-loop μ-loop
 unfolding lawful
-returns c = every-stop slotCount (c .before .before .before .loop .i) _ (c .before .before .loop-test .taken) (sym (c .before .is-lawful-at .ensures) ∙ c .if1 .left)
+returns c =
+    every-stop slotCount (c .before .before .before .loop .i) _ (c .before .before .loop-test .taken) (sym (c .before .is-lawful-at .ensures) ∙ c .if1 .left)
 
 returns-2 : tie.Need-returns-2 Inv-loop μ-loop
 unfolding lawful

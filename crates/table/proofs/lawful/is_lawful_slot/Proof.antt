@@ -13,11 +13,24 @@ are-lawful-values-requires c κs = search needs
 
 returns : tie.Need-returns
 unfolding slotLawful
-returns c = rw (lt-ltb _ _ (c .before .before .before .if2 .taken), ← c .before .before .find-device .ensures, c .before .if3 .taken, c .are-lawful-values .ensures, c .before .before .before .before .before .if1 .taken)
+returns c =
+    rw (
+      lt-ltb _ _ (c .before .before .before .if2 .taken),
+      ← c .before .before .find-device .ensures,
+      c .before .if3 .taken,
+      c .are-lawful-values .ensures,
+      c .before .before .before .before .before .if1 .taken,
+    )
 
 returns-2 : tie.Need-returns-2
 unfolding slotLawful
-returns-2 c = rw (c .before .before .before .before .if1 .taken, lt-ltb _ _ (c .before .before .if2 .taken), ← c .before .find-device .ensures, c .if3 .left)
+returns-2 c =
+    rw (
+      c .before .before .before .before .if1 .taken,
+      lt-ltb _ _ (c .before .before .if2 .taken),
+      ← c .before .find-device .ensures,
+      c .if3 .left,
+    )
 
 returns-3 : tie.Need-returns-3
 unfolding slotLawful
@@ -28,19 +41,41 @@ holds-nothing-requires c κs = search needs
 
 returns-4 : tie.Need-returns-4
 unfolding slotLawful
-returns-4 c = rw (eq-eqb _ _ (c .before .before .before .before .before .before .before .if4 .taken), eq-eqb _ _ (c .before .before .before .before .before .if5 .taken), eq-eqb _ _ (c .before .before .before .if6 .taken), eq-eqb _ _ (c .before .if7 .taken), c .holds-nothing .ensures, c .before .before .before .before .before .before .before .before .before .if1 .left)
+returns-4 c =
+    rw (
+      eq-eqb _ _ (c .before .before .before .before .before .before .before .if4 .taken),
+      eq-eqb _ _ (c .before .before .before .before .before .if5 .taken),
+      eq-eqb _ _ (c .before .before .before .if6 .taken),
+      eq-eqb _ _ (c .before .if7 .taken),
+      c .holds-nothing .ensures,
+      c .before .before .before .before .before .before .before .before .before .if1 .left,
+    )
 
 returns-5 : tie.Need-returns-5
 unfolding slotLawful
-returns-5 c = rw (c .before .before .before .before .before .before .before .before .if1 .left, eq-eqb _ _ (c .before .before .before .before .before .before .if4 .taken), eq-eqb _ _ (c .before .before .before .before .if5 .taken), eq-eqb _ _ (c .before .before .if6 .taken), ne-eqb _ _ (c .if7 .left))
+returns-5 c =
+    rw (
+      c .before .before .before .before .before .before .before .before .if1 .left,
+      eq-eqb _ _ (c .before .before .before .before .before .before .if4 .taken),
+      eq-eqb _ _ (c .before .before .before .before .if5 .taken),
+      eq-eqb _ _ (c .before .before .if6 .taken),
+      ne-eqb _ _ (c .if7 .left),
+    )
 
 returns-6 : tie.Need-returns-6
 unfolding slotLawful
-returns-6 c = rw (c .before .before .before .before .before .before .if1 .left, eq-eqb _ _ (c .before .before .before .before .if4 .taken), eq-eqb _ _ (c .before .before .if5 .taken), ne-eqb _ _ (c .if6 .left))
+returns-6 c =
+    rw (
+      c .before .before .before .before .before .before .if1 .left,
+      eq-eqb _ _ (c .before .before .before .before .if4 .taken),
+      eq-eqb _ _ (c .before .before .if5 .taken),
+      ne-eqb _ _ (c .if6 .left),
+    )
 
 returns-7 : tie.Need-returns-7
 unfolding slotLawful
-returns-7 c = rw (c .before .before .before .before .if1 .left, eq-eqb _ _ (c .before .before .if4 .taken), ne-eqb _ _ (c .if5 .left))
+returns-7 c =
+    rw (c .before .before .before .before .if1 .left, eq-eqb _ _ (c .before .before .if4 .taken), ne-eqb _ _ (c .if5 .left))
 
 returns-8 : tie.Need-returns-8
 unfolding slotLawful

@@ -27,7 +27,15 @@ is-on-requires : tie.Need-is-on-requires Inv-loop μ-loop
 is-on-requires c κs = search needs
 
 returns : tie.Need-returns Inv-loop μ-loop
-returns c = (rw (c .before .before .before .before .loop .inv .1, slot-step _ _ _ _ (c .before .before .before .loop-test .taken), ← c .before .is-on .ensures, c .if1 .taken), omega arith)
+returns c = (
+  rw (
+    c .before .before .before .before .loop .inv .1,
+    slot-step _ _ _ _ (c .before .before .before .loop-test .taken),
+    ← c .before .is-on .ensures,
+    c .if1 .taken,
+  ),
+  omega arith,
+)
 
 add-i : tie.Need-add-i Inv-loop μ-loop
 add-i c = search needs
@@ -39,7 +47,14 @@ loop-less : tie.Need-loop-less Inv-loop μ-loop
 loop-less c = search needs
 
 loop-again : tie.Need-loop-again Inv-loop μ-loop
-loop-again c = (omega arith, c .before .before .before .before .loop .inv .1 ∙ rw (slot-step _ _ _ _ (c .before .before .before .loop-test .taken), ← c .before .is-on .ensures, c .if1 .left))
+loop-again c = (
+  omega arith,
+  c .before .before .before .before .loop .inv .1 ∙ rw (
+    slot-step _ _ _ _ (c .before .before .before .loop-test .taken),
+    ← c .before .is-on .ensures,
+    c .if1 .left,
+  ),
+)
 
 returns-2 : tie.Need-returns-2 Inv-loop μ-loop
 unfolding slotFrom

@@ -33,10 +33,16 @@ loop-less : tie.Need-loop-less Inv-loop μ-loop
 loop-less c = search needs
 
 loop-again : tie.Need-loop-again Inv-loop μ-loop
-loop-again c = (omega arith, c .before .before .before .loop .inv .1 ∙ rw (free-step _ _ _ (c .before .before .loop-test .taken), c .if1 .taken))
+loop-again c = (
+  omega arith,
+  c .before .before .before .loop .inv .1 ∙ rw (free-step _ _ _ (c .before .before .loop-test .taken), c .if1 .taken),
+)
 
 returns : tie.Need-returns Inv-loop μ-loop
-returns c = (rw (c .before .before .before .loop .inv .1, free-step _ _ _ (c .before .before .loop-test .taken), c .if1 .left), omega arith)
+returns c = (
+  rw (c .before .before .before .loop .inv .1, free-step _ _ _ (c .before .before .loop-test .taken), c .if1 .left),
+  omega arith,
+)
 
 returns-2 : tie.Need-returns-2 Inv-loop μ-loop
 unfolding freeFrom
