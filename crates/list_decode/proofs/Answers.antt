@@ -1,5 +1,5 @@
 -- What the public calls answer, from what the checker and the filling pass ensure.
-use Prim.Native.Nat.{ℕ, _≤_, _<_}
+use Prim.Native.Nat.{ℕ, _*_, _≤_, _<_}
 use mathlib.Core.Path.{_≡_, refl, sym, ap, _∙_}
 use mathlib.Core.Bool.{Bool, true, false, _&&_}
 use mathlib.Core.List.{List}
@@ -10,18 +10,28 @@ use Rattle.list.specs.Limits.{listLimit, rowRoom, storeRoom}
 use Rattle.wire.specs.Area.{over}
 use Rattle.list.specs.Tree.{Elements}
 use Rattle.list.specs.Rows.{rowCount, listRows, listStore}
-use Rattle.list.specs.Parse.{Parsed, parse}
+use Rattle.list.specs.Parse.{Parsed, good, parse}
 use Rattle.list_decode.specs.declared.check.Checked.{Checked}
 use Rattle.list_decode.specs.declared.check.Checked.the-variants.{Ok, Bad}
 use Rattle.list_decode.specs.Decode.{outcome, roomy, decodeOf}
+use Rattle.list_decode.specs.Packed.{packedRoomy, decodePackedOf}
 use Rattle.list_decode.specs.Check.{checked}
-use Rattle.list_decode.specs.Items.{elementsOf, numbers, Filled}
+use Rattle.list_decode.specs.Items.{elementsOf, Layout, numbers, rowBytes, Filled}
 use Rattle.list_decode.specs.declared.Decoded.the-variants as decoded
 use Rattle.list_decode.proofs.Checks.{was-read, was-bad}
 
 and-false : (b : Bool) → (b && false) ≡ false
 and-false true = refl
 and-false false = refl
+
+-- what was read, as the filling pass wrote it
+module _ {l : Layout} {s rows store : List ℕ} {n : ℕ} {rows′ store′ : List ℕ} (f : Filled l s rows store n rows′ store′) (es : Elements) (end : ℕ) (is : parse listLimit s ≡ good es end) where
+  filled : outcome (decoded.List end n) rows′ store′ ≡ outcome (decoded.List end (rowCount es)) (over (l .lay (listRows es)) rows) (over (listStore es) store)
+  filled =
+      let a : n ≡ rowCount es = f .count ∙ ap (λ (p : Parsed Elements). rowCount (elementsOf p)) is in
+      let b : rows′ ≡ over (l .lay (listRows es)) rows = f .rowsAre ∙ ap (λ (p : Parsed Elements). over (l .lay (listRows (elementsOf p))) rows) is in
+      let d : store′ ≡ over (listStore es) store = f .storeIs ∙ ap (λ (p : Parsed Elements). over (listStore (elementsOf p)) store) is in
+      rw (a, b, d)
 
 module _ (s rows store : List ℕ) where
   pub few-rows : length rows < 3072 → outcome (decoded.Refused 20 0) rows store ≡ decodeOf s rows store
@@ -32,18 +42,40 @@ module _ (s rows store : List ℕ) where
   unfolding decodeOf roomy
   small-store h = rw (lt-leb storeRoom (length store) h, and-false (leb rowRoom (length rows)))
 
+  pub packed-few-rows : length rows < 12288 → outcome (decoded.Refused 20 0) rows store ≡ decodePackedOf s rows store
+  unfolding decodePackedOf packedRoomy
+  packed-few-rows h = rw (lt-leb (4 * rowRoom) (length rows) h)
+
+  pub packed-small-store : length store < 4096 → outcome (decoded.Refused 20 0) rows store ≡ decodePackedOf s rows store
+  unfolding decodePackedOf packedRoomy
+  packed-small-store h = rw (lt-leb storeRoom (length store) h, and-false (leb (4 * rowRoom) (length rows)))
+
   module _ (h : 3072 ≤ length rows) (g : 4096 ≤ length store) (r : Checked) (is : r ≡ checked (parse listLimit s)) where
+    ready : roomy rows store ≡ true
+    unfolding roomy
+    ready = rw (le-leb rowRoom (length rows) h, le-leb storeRoom (length store) g)
+
     pub fault : (error offset : ℕ) → r ≡ Bad error offset → outcome (decoded.Refused error offset) rows store ≡ decodeOf s rows store
-    unfolding decodeOf roomy
-    fault error offset e =
-        rw (le-leb rowRoom (length rows) h, le-leb storeRoom (length store) g, was-bad (parse listLimit s) error offset (sym is ∙ e))
+    unfolding decodeOf
+    fault error offset e = rw (ready, was-bad (parse listLimit s) error offset (sym is ∙ e))
 
     pub whole : (consumed n : ℕ) (rows′ store′ : List ℕ) → r ≡ Ok consumed → Filled numbers s rows store n rows′ store′
         → outcome (decoded.List consumed n) rows′ store′ ≡ decodeOf s rows store
-    unfolding decodeOf roomy
+    unfolding decodeOf
     whole consumed n rows′ store′ e f =
-        let w = was-read (parse listLimit s) consumed (sym is ∙ e) in
-        let a : n ≡ rowCount (w .0) = f .count ∙ ap (λ (p : Parsed Elements). rowCount (elementsOf p)) (w .1) in
-        let b : rows′ ≡ over (listRows (w .0)) rows = f .rowsAre ∙ ap (λ (p : Parsed Elements). over (listRows (elementsOf p)) rows) (w .1) in
-        let d : store′ ≡ over (listStore (w .0)) store = f .storeIs ∙ ap (λ (p : Parsed Elements). over (listStore (elementsOf p)) store) (w .1) in
-        rw (le-leb rowRoom (length rows) h, le-leb storeRoom (length store) g, w .1, a, b, d)
+        let w = was-read (parse listLimit s) consumed (sym is ∙ e) in rw (ready, w .1) (filled f (w .0) consumed (w .1))
+
+  module _ (h : 12288 ≤ length rows) (g : 4096 ≤ length store) (r : Checked) (is : r ≡ checked (parse listLimit s)) where
+    packed-ready : packedRoomy rows store ≡ true
+    unfolding packedRoomy
+    packed-ready = rw (le-leb (4 * rowRoom) (length rows) h, le-leb storeRoom (length store) g)
+
+    pub packed-fault : (error offset : ℕ) → r ≡ Bad error offset → outcome (decoded.Refused error offset) rows store ≡ decodePackedOf s rows store
+    unfolding decodePackedOf
+    packed-fault error offset e = rw (packed-ready, was-bad (parse listLimit s) error offset (sym is ∙ e))
+
+    pub packed-whole : (consumed n : ℕ) (rows′ store′ : List ℕ) → r ≡ Ok consumed → Filled rowBytes s rows store n rows′ store′
+        → outcome (decoded.List consumed n) rows′ store′ ≡ decodePackedOf s rows store
+    unfolding decodePackedOf
+    packed-whole consumed n rows′ store′ e f =
+        let w = was-read (parse listLimit s) consumed (sym is ∙ e) in rw (packed-ready, w .1) (filled f (w .0) consumed (w .1))

@@ -2,7 +2,7 @@
 use Prim.Native.Nat.{ℕ, zero, suc, _+_, _-_, _*_, _≤_, _<_}
 use mathlib.Core.Path.{_≡_, refl, sym, ap, _∙_}
 use mathlib.Core.Bool.{Bool, true, false, cond}
-use mathlib.Core.List.{List, [], _∷_, _++_, append-nil}
+use mathlib.Core.List.{List, [], _∷_, _++_, append-assoc, append-nil}
 use mathlib.Core.Logic.{⊎-elim}
 use native.Mathlib.Omega.{arith}
 use native.Mathlib.Numerals.{sub-one}
@@ -10,7 +10,7 @@ use native.Mathlib.Nat.{add-zero, zero-add, mul-add, mul-one, mul-zero, mul-le-m
 use lib.Dec.{leb}
 use lib.ListN.{length, take, drop, set, getD, length-append}
 use lib.Seq.{sets, sets-eq, length-sets}
-use Rattle.wire.specs.Number.{Bytes}
+use Rattle.wire.specs.Number.{leBytes, Bytes}
 use Rattle.wire.specs.Area.{over, putAt}
 use Rattle.wire.proofs.Buffers.{put-fits}
 use Rattle.list.specs.declared.Kind.{Kind}
@@ -26,7 +26,8 @@ use Rattle.list.proofs.Sound.{sound, reaches}
 use Rattle.list.proofs.RowBound.{row-bound, store-bound}
 use Rattle.list_decode.specs.declared.item.Item.{Item}
 use Rattle.list_decode.specs.declared.item.Place.{Place}
-use Rattle.list_decode.specs.Items.{Good, elementsOf, endOf, place, runAt, valueItem, listItem, itemAt, Legible, CodedLegible, Layout, numbers, Ready, Written, Judged}
+use Rattle.list_decode.specs.Packed.{packed}
+use Rattle.list_decode.specs.Items.{Good, elementsOf, endOf, place, runAt, valueItem, listItem, itemAt, Legible, CodedLegible, Layout, numbers, rowBytes, Ready, Written, Judged}
 use Rattle.list_decode.proofs.Reading.{IsValue, ValueHere, ListHere, value-is, Reads, plus, join, plus-rows, plus-store, plus-count, parse-reads, reads-none, typed-is}
 use Rattle.list_decode.proofs.Checks.{was-read}
 
@@ -513,3 +514,19 @@ module _ {l : Layout} (laid : Laid l) {s : List ℕ} {end : ℕ} {rows store : L
         sym (r .same-rows ∙ ap (sets rows′ (x .row)) (laid .none-is)) ∙ ap (λ (i : List ℕ). sets rows 0 (l .lay i)) a ∙ front (l .lay (listRows (tree s))) rows len,
         sym (r .same-store) ∙ ap (sets store 0) b ∙ front (listStore (tree s)) store size,
       )
+
+-- twelve bytes for each row
+packed-append : (xs ys : List ℕ) → packed (xs ++ ys) ≡ packed xs ++ packed ys
+packed-append [] ys = refl
+packed-append (x ∷ xs) ys = ap (λ (i : List ℕ). leBytes 4 x ++ i) (packed-append xs ys) ∙ sym (append-assoc (leBytes 4 x) (packed xs) (packed ys))
+
+pub laid-rows : Laid rowBytes
+laid-rows = record { none-is = refl; append = packed-append; three = λ a b c. refl }
+
+-- three numbers as bytes
+pub put-three : (rows : List ℕ) (at a b c : ℕ) (rows₁ rows₂ rows₃ : List ℕ) → rows₁ ≡ sets rows at (leBytes 4 a) → rows₂ ≡ sets rows₁ (at + 4) (leBytes 4 b)
+    → rows₃ ≡ sets rows₂ (at + 8) (leBytes 4 c) → rows₃ ≡ sets rows at (packed (a ∷ b ∷ c ∷ []))
+put-three rows at a b c rows₁ rows₂ rows₃ p q r =
+    let e : at + 4 + 4 ≡ at + 8 = omega arith in
+    sym (sets-append rows at (leBytes 4 a) (packed (b ∷ c ∷ [])) ∙ sets-append (sets rows at (leBytes 4 a)) (at + 4) (leBytes 4 b) (packed (c ∷ []))
+    ∙ rw (← p, ← q, e, ← r))

@@ -17,6 +17,7 @@ use Rattle.list.specs.Parse.{Parsed, good, bad, word, typedAt, parse}
 use Rattle.list_decode.specs.declared.check.Checked.the-variants.{Ok}
 use Rattle.list_decode.specs.declared.item.Item.{Item}
 use Rattle.list_decode.specs.declared.item.Place.{Place}
+use Rattle.list_decode.specs.Packed.{packed}
 use Rattle.list_decode.specs.Check.{checked}
 
 -- the elements that were read, and the offset behind them
@@ -90,6 +91,10 @@ pub record Layout : Type 0 where
 -- three numbers for each row
 abbrev pub numbers : Layout
 numbers = record { width = 3; lay = λ xs. xs }
+
+-- twelve bytes for each row
+abbrev pub rowBytes : Layout
+rowBytes = record { width = 12; lay = packed }
 
 -- a run can be written from the place x on
 pub record Ready (l : Layout) (x : Place) (p : Parsed Elements) (rows store : List ℕ) : Type 0 where

@@ -1,3 +1,4 @@
 pub mod Decode
+pub mod Packed
 pub mod Check
 pub mod Items

@@ -2,12 +2,17 @@
 mod check;
 mod fill;
 mod item;
+mod packed;
 
 use crate::check::Checked;
 use list::LIST_LIMIT;
 use list::ROW_NUMBERS;
 ghost use mathlib.Core.Path.{_≡_};
 ghost use Rattle.list_decode.specs.Decode.{outcome, decodeOf};
+ghost use Rattle.list_decode.specs.Packed.{decodePackedOf};
+
+// The room that rows must have as bytes, four to a number.
+const ROW_BYTES: usize = 4 * ROW_NUMBERS;
 
 // The list at the front: the bytes it takes and the rows it fills; or 01's number and the offset of the item at fault.
 pub enum Decoded {
@@ -36,6 +41,32 @@ pub fn decode(bytes: &[u8], rows: &mut [u32], store: &mut [u8]) -> Decoded
         Checked::Bad(error, offset) => Decoded::Refused { error, offset },
         Checked::Ok(consumed) => {
             let n = fill::fill(bytes, consumed, rows, store);
+            Decoded::List { consumed, rows: n }
+        }
+    }
+}
+
+// The same for callers whose rows are bytes: a row is 12 bytes, low byte first.
+pub fn decode_packed(bytes: &[u8], rows: &mut [u8], store: &mut [u8]) -> Decoded
+    ensures { λ r. ⌜ outcome r (now (rows .exit)) (now (store .exit)) ≡ decodePackedOf (now (bytes .entry)) (now (rows .entry)) (now (store .entry)) ⌝ }
+{
+    if rows.len() < ROW_BYTES {
+        return Decoded::Refused {
+            error: 20,
+            offset: 0,
+        };
+    }
+    if store.len() < LIST_LIMIT {
+        return Decoded::Refused {
+            error: 20,
+            offset: 0,
+        };
+    }
+    let c = check::check(bytes);
+    match c {
+        Checked::Bad(error, offset) => Decoded::Refused { error, offset },
+        Checked::Ok(consumed) => {
+            let n = packed::fill(bytes, consumed, rows, store);
             Decoded::List { consumed, rows: n }
         }
     }

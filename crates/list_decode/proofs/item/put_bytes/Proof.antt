@@ -7,6 +7,8 @@ use Rattle.list_decode.proofs.Fills.{copied-none}
 use Rattle.list_decode.proofs.item.put_bytes.Statement.{statement}
 use Rattle.list_decode.proofs.item.put_bytes.Tie as tie
 
+-- `list_decode::item::put_bytes` meets its contract. No bytes change nothing.
+
 returns : tie.Need-returns
 returns c = copied-none (c .before .before .before .args .s .now) (c .before .before .before .args .store .now) (c .before .before .before .args .first) (c .before .before .before .args .used) (c .before .before .before .args .len) (c .if1 .taken)
 
