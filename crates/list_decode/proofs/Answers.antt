@@ -11,14 +11,14 @@ use Rattle.wire.specs.Area.{over}
 use Rattle.list.specs.Tree.{Elements}
 use Rattle.list.specs.Rows.{rowCount, listRows, listStore}
 use Rattle.list.specs.Parse.{Parsed, good, parse}
-use Rattle.list_decode.specs.declared.check.Checked.{Checked}
-use Rattle.list_decode.specs.declared.check.Checked.the-variants.{Ok, Bad}
+use Rattle.list_check.specs.declared.Checked.{Checked}
+use Rattle.list_check.specs.declared.Checked.the-variants.{Ok, Bad}
+use Rattle.list_check.specs.Check.{checked}
+use Rattle.list_check.proofs.Checks.{was-read, was-bad}
 use Rattle.list_decode.specs.Decode.{outcome, roomy, decodeOf}
 use Rattle.list_decode.specs.Packed.{packedRoomy, decodePackedOf}
-use Rattle.list_decode.specs.Check.{checked}
 use Rattle.list_decode.specs.Items.{elementsOf, Layout, numbers, rowBytes, Filled}
 use Rattle.list_decode.specs.declared.Decoded.the-variants as decoded
-use Rattle.list_decode.proofs.Checks.{was-read, was-bad}
 
 and-false : (b : Bool) → (b && false) ≡ false
 and-false true = refl

@@ -24,12 +24,12 @@ use Rattle.list.specs.Rows.{valueStore, valueRow, elementStore, elementRows, el
 use Rattle.list.specs.Parse.{Parsed, good, bad, andThen, word, valueAt, typedAt, parse}
 use Rattle.list.proofs.Sound.{sound, reaches}
 use Rattle.list.proofs.RowBound.{row-bound, store-bound}
+use Rattle.list_check.proofs.Checks.{was-read}
 use Rattle.list_decode.specs.declared.item.Item.{Item}
 use Rattle.list_decode.specs.declared.item.Place.{Place}
 use Rattle.list_decode.specs.Packed.{packed}
 use Rattle.list_decode.specs.Items.{Good, elementsOf, endOf, place, runAt, valueItem, listItem, itemAt, Legible, CodedLegible, Layout, numbers, rowBytes, Ready, Written, Judged}
-use Rattle.list_decode.proofs.Reading.{IsValue, ValueHere, ListHere, value-is, Reads, plus, join, plus-rows, plus-store, plus-count, parse-reads, reads-none, typed-is}
-use Rattle.list_decode.proofs.Checks.{was-read}
+use Rattle.list_decode.proofs.Reading.{IsValue, ValueHere, ListHere, value-is, Reads, plus, join, plus-rows, plus-store, plus-count, parse-reads, reads-none, typed-on}
 
 -- every value begins with a number
 pub legible-first : (s : List ℕ) (at : ℕ) (k : Kind) → Legible s at k → at + 4 ≤ length s
@@ -441,7 +441,7 @@ module _ {l : Layout} (laid : Laid l) {s : List ℕ} {end : ℕ} {rows store : L
                   hs = fs;
                   mid = r .0;
                   run = rw (u, w .1, m, b) (w .2);
-                  on = omega (arith, b, typed-is listLimit s (w .0) (word s (x .pos + 4)) (x .pos + 8) inner (r .0) (w .2) .2);
+                  on = omega (arith, b, typed-on listLimit s (w .0) (word s (x .pos + 4)) (x .pos + 8) inner (r .0) (w .2));
                   inside = stage-fits .inside;
                   reads = r .3;
                   rest = rest;

@@ -1,4 +1,3 @@
 pub mod Reading
-pub mod Checks
 pub mod Fills
 pub mod Answers

@@ -2,16 +2,15 @@
 -- A list inside a list without codes of its own kind is read in place, so elements can be taken one behind the other (`join`).
 use Prim.Native.Nat.{ℕ, zero, suc, _+_, _-_, _≤_}
 use mathlib.Core.Path.{_≡_, refl, sym, ap, _∙_}
-use mathlib.Core.Bool.{Bool, true, false, cond, _&&_, _||_}
+use mathlib.Core.Bool.{Bool, true, false, _||_}
 use mathlib.Core.List.{List, [], _∷_, _++_, append-assoc}
 use mathlib.Core.Logic.{_⊎_, inl, inr, ⊎-elim}
 use native.Mathlib.Omega.{arith}
 use native.Mathlib.Nat.{add-zero}
-use lib.Dec.{eqb, leb}
+use lib.Dec.{eqb}
 use lib.ListN.{length, take, drop, length-drop, length-append}
 use lib.Seq.{length-take-le}
-use borrow.Author.Tests.{eqb-true, eqb-false, leb-true}
-use Rattle.wire.proofs.Chains.{and-left, and-right}
+use borrow.Author.Tests.{eqb-false}
 use Rattle.list.specs.declared.Kind.{Kind}
 use Rattle.list.specs.declared.Kind.the-variants.{Int, Float, Str, Blob, Vocab}
 use Rattle.list.specs.declared.KindFound.{KindFound}
@@ -21,65 +20,17 @@ use Rattle.list.specs.Kind.{kindOf, listCode}
 use Rattle.list.specs.Tree.{Value, Elements, none, value, list, kind, count}
 use Rattle.list.specs.Bytes.{listCodeOf}
 use Rattle.list.specs.Rows.{valueStore, valueRow, listRow, elementStore, elementRows, elementCount}
-use Rattle.list.specs.Parse.{Parsed, good, bad, andThen, afterItem, itemFault, word, negative, closed, stringAt, blobAt, valueAt, typedAt, isKind, isListCode, codedValue, codedAt, mixedAt, elementsAt, listAt, parse}
-use Rattle.list.proofs.Codes.{code-of-kind, kind-no-list, AllKind}
-use Rattle.list.proofs.Items.{fault-fits}
+use Rattle.list.specs.Parse.{Parsed, good, bad, word, negative, closed, stringAt, blobAt, valueAt, typedAt, isListCode, codedValue, codedAt, mixedAt, elementsAt, listAt, parse}
+use Rattle.list_check.proofs.Codes.{list-high, list-no-kind}
+use Rattle.list_check.proofs.Gives.{Gives, test, next-step, after-item}
+use Rattle.list_check.proofs.KindRead.{typed-kind}
 use Rattle.list_decode.specs.Items.{valueItem, Legible}
 
--- CODES OF LISTS
 or-left : (a b : Bool) → (a || b) ≡ false → a ≡ false
 or-left true b h = h
 or-left false b h = refl
 
-pub list-high : (code : ℕ) → isListCode code ≡ true → listCode ≤ code
-unfolding isListCode
-list-high code h = go (eqb code listCode) refl h
-  where
-    go : (b : Bool) → eqb code listCode ≡ b → (b || (leb listCode code && isKind (kindOf (code - listCode)))) ≡ true → listCode ≤ code
-    go true e q = omega (arith, eqb-true code listCode e)
-    go false e q = leb-true listCode code (and-left (leb listCode code) (isKind (kindOf (code - listCode))) q)
-
-pub list-mixed : (code : ℕ) → isListCode code ≡ true → kindOf (code - listCode) ≡ Unknown → code ≡ listCode
-unfolding isListCode
-list-mixed code h e = go (eqb code listCode) refl (rw e at h)
-  where
-    go : (b : Bool) → eqb code listCode ≡ b → (b || (leb listCode code && false)) ≡ true → code ≡ listCode
-    go true q r = eqb-true code listCode q
-    go false q r = absurd (let y : false ≡ true = and-right (leb listCode code) false r in let z : _≡_ {A = ℕ} 0 1 = cc in omega arith)
-
-pub kind-not-list : (code : ℕ) (k : Kind) → kindOf code ≡ Is k → isListCode code ≡ false
-kind-not-list code k e = ap isListCode (code-of-kind code k e) ∙ kind-no-list k
-
-pub list-no-kind : (code : ℕ) → isListCode code ≡ true → kindOf code ≡ Unknown
-list-no-kind code h = go (kindOf code) refl
-  where
-    go : (f : KindFound) → kindOf code ≡ f → f ≡ Unknown
-    go Unknown e = refl
-    go (Is k) e = absurd (let y : isListCode code ≡ false = kind-not-list code k e in let z : _≡_ {A = ℕ} 0 1 = cc in omega arith)
-
--- what holds of what was read; a fault says nothing
-abbrev pub Gives : {A : Type 0} → (A → ℕ → Type 0) → Parsed A → Type 0
-Gives G (good a next) = G a next
-Gives G (bad fault offset) = Unit {0}
-
-test : {A : Type 0} (G : A → ℕ → Type 0) (b : Bool) (p q : Parsed A) → (b ≡ true → Gives G p) → (b ≡ false → Gives G q) → Gives G (cond b p q)
-test G true p q x y = x refl
-test G false p q x y = y refl
-
-next-step : {A B : Type 0} (G : A → ℕ → Type 0) (H : B → ℕ → Type 0) (p : Parsed A) (go : A → ℕ → Parsed B) → Gives G p
-    → ((a : A) (next : ℕ) → p ≡ good a next → G a next → Gives H (go a next)) → Gives H (andThen p go)
-next-step G H (good a next) go h f = f a next refl h
-next-step G H (bad fault offset) go h f = tt
-
 module _ (limit : ℕ) (s : List ℕ) where
-  after-item : {A : Type 0} (G : A → ℕ → Type 0) (at n : ℕ) (p : Parsed A)
-      → (at + n ≤ limit → at + n ≤ length s → Gives G p) → Gives G (afterItem (itemFault limit s at n) at p)
-  after-item {A} G at n p go = by (itemFault limit s at n) refl
-    where
-      by : (fault : ℕ) → itemFault limit s at n ≡ fault → Gives G (afterItem fault at p)
-      by zero e = let f = fault-fits limit s at n e in go (f .0) (f .1)
-      by (suc fault) e = tt
-
   -- a value of the kind k at an offset: the filling pass's item is its row
   pub record IsValue (k : Kind) (at : ℕ) (v : Value) (next : ℕ) : Type 0 where
     pub of-kind : kind v ≡ k
@@ -98,9 +49,9 @@ module _ (limit : ℕ) (s : List ℕ) where
   string-gives : (at : ℕ) → Gives (IsValue Str at) (stringAt limit s at)
   unfolding stringAt
   string-gives at =
-      after-item _ at 4 _ (λ f₄ i₄.
+      after-item limit s _ at 4 _ (λ f₄ i₄.
       test _ (eqb (word s at) 0 || negative (word s at)) _ _ (λ e. tt) (λ e.
-      after-item _ (at + 4) (word s at) _ (λ f i.
+      after-item limit s _ (at + 4) (word s at) _ (λ f i.
       test _ (closed (take (word s at) (drop (at + 4) s))) _ _
       (λ c.
       let some : word s at ≡ 0 → ⊥ = eqb-false (word s at) 0 (or-left (eqb (word s at) 0) (negative (word s at)) e) in
@@ -121,9 +72,9 @@ module _ (limit : ℕ) (s : List ℕ) where
   blob-gives : (at : ℕ) → Gives (IsValue Blob at) (blobAt limit s at)
   unfolding blobAt
   blob-gives at =
-      after-item _ at 4 _ (λ f₄ i₄.
+      after-item limit s _ at 4 _ (λ f₄ i₄.
       test _ (negative (word s at)) _ _ (λ e. tt) (λ e.
-      after-item _ (at + 4) (word s at) _ (λ f i.
+      after-item limit s _ (at + 4) (word s at) _ (λ f i.
       let len : length (take (word s at) (drop (at + 4) s)) ≡ word s at = part-length (at + 4) (word s at) i in
       record {
         of-kind = refl;
@@ -139,7 +90,7 @@ module _ (limit : ℕ) (s : List ℕ) where
 
   pub value-gives : (k : Kind) (at : ℕ) → Gives (IsValue k at) (valueAt limit s at k)
   unfolding valueAt
-  value-gives Int at = after-item _ at 4 _ (λ f i. record {
+  value-gives Int at = after-item limit s _ at 4 _ (λ f i. record {
     of-kind = refl;
     legible = i;
     row = λ used. refl;
@@ -150,7 +101,7 @@ module _ (limit : ℕ) (s : List ℕ) where
     fits = f;
     grows = omega arith;
   })
-  value-gives Vocab at = after-item _ at 4 _ (λ f i. record {
+  value-gives Vocab at = after-item limit s _ at 4 _ (λ f i. record {
     of-kind = refl;
     legible = i;
     row = λ used. refl;
@@ -161,7 +112,7 @@ module _ (limit : ℕ) (s : List ℕ) where
     fits = f;
     grows = omega arith;
   })
-  value-gives Float at = after-item _ at 8 _ (λ f i. record {
+  value-gives Float at = after-item limit s _ at 8 _ (λ f i. record {
     of-kind = refl;
     legible = i;
     row = λ used. refl;
@@ -178,17 +129,17 @@ module _ (limit : ℕ) (s : List ℕ) where
   pub value-is : (k : Kind) (at : ℕ) (v : Value) (next : ℕ) → valueAt limit s at k ≡ good v next → IsValue k at v next
   value-is k at v next h = rw h at (value-gives k at)
 
-  -- elements without codes: as many as asked for, all of the kind
-  typed-gives : (k : Kind) (n at : ℕ) → Gives (λ es end. (count es ≡ n) × AllKind k es × (at ≤ end)) (typedAt limit s k n at)
+  -- elements without codes are read forwards
+  typed-gives : (k : Kind) (n at : ℕ) → Gives (λ es end. at ≤ end) (typedAt limit s k n at)
   unfolding typedAt
-  typed-gives k zero at = (refl, tt, omega arith)
+  typed-gives k zero at = omega arith
   typed-gives k (suc n) at =
       next-step (IsValue k at) _ (valueAt limit s at k) _ (value-gives k at) (λ v next e w.
-      next-step _ _ (typedAt limit s k n next) _ (typed-gives k n next) (λ es end d r.
-      (ap suc (r .0), (w .of-kind, r .1), omega (arith, w .grows, r .2))))
+      next-step (λ es end. next ≤ end) _ (typedAt limit s k n next) _ (typed-gives k n next) (λ es end d r.
+      omega (arith, w .grows, r)))
 
-  pub typed-is : (k : Kind) (n at : ℕ) (es : Elements) (end : ℕ) → typedAt limit s k n at ≡ good es end → (count es ≡ n) × AllKind k es × (at ≤ end)
-  typed-is k n at es end h = rw h at (typed-gives k n at)
+  pub typed-on : (k : Kind) (n at : ℕ) (es : Elements) (end : ℕ) → typedAt limit s k n at ≡ good es end → at ≤ end
+  typed-on k n at es end h = rw h at (typed-gives k n at)
 
   -- the head of a value, and of a list, behind their codes
   pub record ValueHere (at : ℕ) (v : Value) (next : ℕ) : Type 0 where
@@ -236,7 +187,7 @@ module _ (limit : ℕ) (s : List ℕ) where
   coded-gives : (inner : ℕ → ℕ → Parsed Elements) → ReadsLists inner → (at : ℕ) → Gives (IsElement at) (codedAt inner limit s at)
   unfolding codedAt
   coded-gives inner reads at =
-      after-item _ at 4 _ (λ f i.
+      after-item limit s _ at 4 _ (λ f i.
       test _ (isListCode (word s at)) _ _
       (λ c. next-step _ _ (inner at (word s at)) _ (reads at c) (λ es next q w.
       λ fs end r. ((next, w .0, w .1, r), refl)))
@@ -263,7 +214,7 @@ module _ (limit : ℕ) (s : List ℕ) where
       go (Is k) e = typed (typedAt limit s k (word s (at + 4)) (at + 8)) refl
         where
           typed : (p : Parsed Elements) → typedAt limit s k (word s (at + 4)) (at + 8) ≡ p → Gives (IsList at) p
-          typed (good es next) q = (here es (typed-is k (word s (at + 4)) (at + 8) es next q .0), inl (k, e, q))
+          typed (good es next) q = (here es (typed-kind limit s k (word s (at + 4)) (at + 8) es next q .0), inl (k, e, q))
           typed (bad fault offset) q = tt
       go Unknown e = mixed (mixedAt inner limit s (word s (at + 4)) (at + 8)) (mixed-gives inner reads (word s (at + 4)) (at + 8))
         where
@@ -275,7 +226,7 @@ module _ (limit : ℕ) (s : List ℕ) where
   unfolding listAt
   list-gives zero at c = tt
   list-gives (suc d) at c =
-      after-item _ (at + 4) 4 _ (λ f i.
+      after-item limit s _ (at + 4) 4 _ (λ f i.
       test _ (negative (word s (at + 4))) _ _ (λ e. tt) (λ e.
       next-step _ _ (elementsAt (listAt d limit s) limit s (kindOf (word s at - listCode)) (word s (at + 4)) (at + 8)) _
       (elements-give (listAt d limit s) (list-gives d) at c (omega arith) (omega arith) (kindOf (word s at - listCode)) refl)
@@ -284,7 +235,7 @@ module _ (limit : ℕ) (s : List ℕ) where
   parse-gives : Gives (IsList 0) (parse limit s)
   unfolding parse
   parse-gives =
-      after-item _ 0 4 _ (λ f i.
+      after-item limit s _ 0 4 _ (λ f i.
       test _ (isListCode (word s 0)) _ _ (λ c. list-gives depthLimit 0 c) (λ c. tt))
 
   -- what was read at the front, as the one element of a list
@@ -330,7 +281,7 @@ reads-on limit s none at end r = omega (arith, r)
 reads-on limit s (value v es) at end r = omega (arith, r .1 .item .grows, reads-on limit s es (r .0) end (r .2))
 reads-on limit s (list inner es) at end r =
     let inside : at + 8 ≤ r .0 =
-    ⊎-elim (λ w. typed-is limit s (w .0) (word s (at + 4)) (at + 8) inner (r .0) (w .2) .2) (λ w. reads-on limit s inner (at + 8) (r .0) (w .1)) (r .2) in
+    ⊎-elim (λ w. typed-on limit s (w .0) (word s (at + 4)) (at + 8) inner (r .0) (w .2)) (λ w. reads-on limit s inner (at + 8) (r .0) (w .1)) (r .2) in
     omega (arith, inside, reads-on limit s es (r .0) end (r .3))
 
 -- at the end nothing is left
@@ -339,5 +290,5 @@ reads-none limit s none at end r h = refl
 reads-none limit s (value v es) at end r h = absurd (omega (arith, r .1 .item .grows, reads-on limit s es (r .0) end (r .2)))
 reads-none limit s (list inner es) at end r h =
     let inside : at + 8 ≤ r .0 =
-    ⊎-elim (λ w. typed-is limit s (w .0) (word s (at + 4)) (at + 8) inner (r .0) (w .2) .2) (λ w. reads-on limit s inner (at + 8) (r .0) (w .1)) (r .2) in
+    ⊎-elim (λ w. typed-on limit s (w .0) (word s (at + 4)) (at + 8) inner (r .0) (w .2)) (λ w. reads-on limit s inner (at + 8) (r .0) (w .1)) (r .2) in
     absurd (omega (arith, inside, reads-on limit s es (r .0) end (r .3)))

@@ -14,11 +14,11 @@ use Rattle.list.specs.Kind.{codeOf, kindOf, listCode}
 use Rattle.list.specs.Tree.{Elements, none}
 use Rattle.list.specs.Rows.{elementRows, elementStore, elementCount, listRows, listStore, rowCount}
 use Rattle.list.specs.Parse.{Parsed, good, bad, word, typedAt, parse}
-use Rattle.list_decode.specs.declared.check.Checked.the-variants.{Ok}
+use Rattle.list_check.specs.declared.Checked.the-variants.{Ok}
 use Rattle.list_decode.specs.declared.item.Item.{Item}
 use Rattle.list_decode.specs.declared.item.Place.{Place}
 use Rattle.list_decode.specs.Packed.{packed}
-use Rattle.list_decode.specs.Check.{checked}
+use Rattle.list_check.specs.Check.{checked}
 
 -- the elements that were read, and the offset behind them
 abbrev pub elementsOf : Parsed Elements → Elements

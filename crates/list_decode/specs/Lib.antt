@@ -1,4 +1,3 @@
 pub mod Decode
 pub mod Packed
-pub mod Check
 pub mod Items

@@ -1,9 +1,8 @@
 // The row of one element, and where the next one stands.
-use crate::check::NUMBER;
-use crate::check::word_at;
 use list::Kind;
 use list::KindFound;
 use list::LIST_CODE;
+use list_check::NUMBER;
 ghost use mathlib.Core.Path.{_≡_};
 ghost use Prim.Native.Nat.{_+_, _≤_, _<_, _^_};
 ghost use lib.ListN.{length, take, drop};
@@ -31,6 +30,15 @@ pub struct Place {
     pub used: usize,
 }
 
+// The number at an offset where its four bytes are there.
+fn word_at(s: &[u8], at: usize) -> u32
+    requires { ⌜ at + 4 ≤ length (now s) ⌝ }
+    ensures { λ r. ⌜ r ≡ word (now (s .entry)) at ⌝ }
+{
+    wire::join32(s[at], s[at + 1], s[at + 2], s[at + 3])
+}
+
+// A row with nothing for the store.
 fn plain(a: u32, b: u32, c: u32, next: usize) -> Item
     ensures { λ r. ⌜ r ≡ plainItem a b c next ⌝ }
 {

@@ -1,12 +1,11 @@
 // Reading one list: judged whole, then its rows and its store bytes are written.
-mod check;
 mod fill;
 mod item;
 mod packed;
 
-use crate::check::Checked;
 use list::LIST_LIMIT;
 use list::ROW_NUMBERS;
+use list_check::Checked;
 ghost use mathlib.Core.Path.{_≡_};
 ghost use Rattle.list_decode.specs.Decode.{outcome, decodeOf};
 ghost use Rattle.list_decode.specs.Packed.{decodePackedOf};
@@ -36,7 +35,7 @@ pub fn decode(bytes: &[u8], rows: &mut [u32], store: &mut [u8]) -> Decoded
             offset: 0,
         };
     }
-    let c = check::check(bytes);
+    let c = list_check::check(bytes);
     match c {
         Checked::Bad(error, offset) => Decoded::Refused { error, offset },
         Checked::Ok(consumed) => {
@@ -62,7 +61,7 @@ pub fn decode_packed(bytes: &[u8], rows: &mut [u8], store: &mut [u8]) -> Decoded
             offset: 0,
         };
     }
-    let c = check::check(bytes);
+    let c = list_check::check(bytes);
     match c {
         Checked::Bad(error, offset) => Decoded::Refused { error, offset },
         Checked::Ok(consumed) => {

@@ -1,11 +1,11 @@
 // The same as `fill`, with the rows as bytes: a row is 12 bytes, low byte first.
-use crate::check::NUMBER;
 use crate::item::Place;
 use crate::item::element;
 use crate::item::put_bytes;
 use crate::item::value_item;
 use list::Kind;
 use list::KindFound;
+use list_check::NUMBER;
 ghost use mathlib.Core.Path.{_≡_};
 ghost use mathlib.Core.List.{[], _∷_};
 ghost use Prim.Native.Nat.{_+_, _*_, _≤_};

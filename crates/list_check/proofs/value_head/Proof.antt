@@ -1,0 +1,19 @@
+-- `list_check::value_head` meets its contract.
+use borrow.Author.Needs.{needs}
+use Rattle.list_check.proofs.value_head.Statement.{statement}
+use Rattle.list_check.proofs.value_head.Tie as tie
+
+enum-known-c : tie.Need-enum-known-c
+enum-known-c c = search needs
+
+enum-known-c-2 : tie.Need-enum-known-c-2
+enum-known-c-2 c = search needs
+
+returns : tie.Need-returns
+returns c = rw (c .before .c .given .1)
+
+returns-2 : tie.Need-returns-2
+returns-2 c = rw (c .before .c2 .given .1)
+
+pub value-head-spec : {M : Type 1} → statement M
+value-head-spec = tie.close (tie.spec enum-known-c enum-known-c-2 returns returns-2)
