@@ -1,6 +1,5 @@
 // Packet reading for C: numbers and byte areas only.
 use packet::Answer;
-use packet::PACKET_ROOM;
 ghost use mathlib.Core.Path.{_≡_};
 ghost use Rattle.display.specs.PacketCall.{packetCall};
 
@@ -16,15 +15,7 @@ pub struct PacketResult {
 pub extern "C" fn cinder_packet_decode(bytes: &[u8], message: &mut [u8]) -> PacketResult
     ensures { λ r. ⌜ record { error = r .error; consumed = r .consumed; message = now (message .exit) } ≡ packetCall (now (bytes .entry)) (now (message .entry)) ⌝ }
 {
-    if message.len() < PACKET_ROOM {
-        return PacketResult {
-            error: 20,
-            consumed: 0,
-        };
-    }
-    let decoded = packet::decode(bytes);
-    let answer = decoded.answer;
-    let copy = decoded.message;
+    let answer = packet::decode_into(bytes, &mut *message);
     match answer {
         Answer::Refused(number) => PacketResult {
             error: number as u64,
@@ -32,14 +23,11 @@ pub extern "C" fn cinder_packet_decode(bytes: &[u8], message: &mut [u8]) -> Pack
         },
         Answer::Packet {
             kind: _,
-            payload_len,
+            payload_len: _,
             consumed,
-        } => {
-            wire::copy_at(message, 0, &copy[..payload_len + 3]);
-            PacketResult {
-                error: 0,
-                consumed: consumed as u64,
-            }
-        }
+        } => PacketResult {
+            error: 0,
+            consumed: consumed as u64,
+        },
     }
 }

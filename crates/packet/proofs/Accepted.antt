@@ -1,10 +1,10 @@
 -- Reading accepts exactly the packets: each packet, with anything behind it, as its type, payload and size (complete), and nothing else (sound).
-use Prim.Native.Nat.{ℕ, zero, suc, _+_, _-_, _≤_}
+use Prim.Native.Nat.{ℕ, suc, _+_, _-_, _≤_}
 use mathlib.Core.Path.{_≡_, refl, sym, ap, _∙_}
-use mathlib.Core.Bool.{Bool, true, false, not, cond}
+use mathlib.Core.Bool.{Bool, true, false, not}
 use mathlib.Core.List.{List, [], _∷_, _++_}
 use native.Mathlib.Omega.{arith}
-use lib.Dec.{eqb, eqb·suc-zero}
+use lib.Dec.{eqb}
 use lib.ListN.{length, getD, take, drop, length-append, take-append-drop}
 use lib.Seq.{take-at, getD-at, take-suc, take-all, length-take-le}
 use borrow.Author.Tests.{eq-eqb, eqb-true, eqb-false, not-false}
@@ -15,7 +15,7 @@ use Rattle.packet.specs.Message.{xorFrom, headOf, messageOf, messageErro
 use Rattle.packet.specs.Packet.{IsPacket, StartsWith, Reading, accepted, copyOf, lengthByte, partPresent, frontError, packetError, refusal, acceptance, decoded}
 use Rattle.packet.proofs.CobsBlocks.{decodes, decoded-means, message-length}
 use Rattle.packet.proofs.Lengths.{allowed-top}
-use Rattle.packet.proofs.FrontTests.{Front, front-good, front-passed, pass, not-eqb}
+use Rattle.packet.proofs.FrontTests.{Front, front-good, front-passed, pass, pass-on, not-eqb}
 use Rattle.packet.proofs.DecodeStages.{error-message, decoded-good, decoded-refused, length-part, length-message}
 use Rattle.packet.proofs.EncodeStages.{length-messageOf}
 
@@ -101,10 +101,6 @@ message-means (k ∷ l ∷ r) h g =
       allows = rw (lp, ← e3) p8;
       bytes = rw (lp, x, el) (ap (λ (t : List ℕ). k ∷ n ∷ t) (sym w));
     }
-
-pass-on : (n k : ℕ) → cond (not (eqb n 0)) n k ≡ 0 → (n ≡ 0) × (k ≡ 0)
-pass-on zero k h = (refl, h)
-pass-on (suc n) k h = absurd (omega (arith, rw (eqb·suc-zero n) at h))
 
 -- a judgement that accepts was given for no error
 no-refusal : (s : List ℕ) (kind n consumed : ℕ) → decoded s .judgement ≡ accepted kind n consumed → packetError s ≡ 0

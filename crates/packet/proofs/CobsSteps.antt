@@ -1,14 +1,13 @@
 -- One step of each loop over a part: what the executable COBS definitions say one byte further on.
-use Prim.Native.Nat.{ℕ, zero, suc, _+_, _-_, _≤_, _<_}
+use Prim.Native.Nat.{ℕ, zero, suc, _+_, _≤_, _<_}
 use mathlib.Core.Path.{_≡_, refl, ap, _∙_, sym}
 use mathlib.Core.Bool.{true, false}
-use mathlib.Core.List.{List, [], _∷_, _++_, append-assoc, append-nil}
-use native.Mathlib.Numerals.{add-one, sub-one}
+use mathlib.Core.List.{List, [], _∷_, _++_, append-nil}
 use native.Mathlib.Omega.{arith}
-use lib.ListN.{length, take, drop, getD, set, drop-of-length-le, take-append-drop, length-set, length-drop, length-append}
-use lib.Seq.{drop-cons, take-suc-set, drop-set-lt, drop-drop, take-all, drop-length, length-take-le, append-snoc, set-at, take-suc}
+use lib.ListN.{length, take, drop, getD, set, length-drop, length-append}
+use lib.Seq.{drop-cons, take-all, drop-length, length-take-le, append-snoc, set-at, take-suc}
 use Rattle.wire.specs.Zero.{hasZero}
-use Rattle.packet.specs.Cobs.{plain, lacking, decodedPart, codeOr, gapFrom, gapBefore, stuffed}
+use Rattle.packet.specs.Cobs.{codeOr, gapFrom, gapBefore, stuffed}
 
 -- a Boolean is not both
 pub clash : {X : Type 0} → true ≡ false → X
@@ -20,80 +19,6 @@ zero-at [] i z h = absurd (omega arith)
 zero-at (zero ∷ e) i z h = clash z
 zero-at (suc b ∷ e) zero z h = omega arith
 zero-at (suc b ∷ e) (suc i) z h = zero-at e i z (omega arith)
-
--- Decoding a part.
-
-module _ (out e : List ℕ) (i : ℕ) (o : i < length out) (h : i + 1 < length e) where
-  next : drop (i + 1) e ≡ getD e (i + 1) 0 ∷ drop (i + 1 + 1) e
-  next = rw (add-one (i + 1)) (drop-cons e (i + 1) 0 h)
-
-  plain-code : take i out ++ plain 0 (drop (i + 1) e) ≡ take (i + 1) (set out i 0) ++ plain (getD e (i + 1) 0 - 1) (drop (i + 1 + 1) e)
-  unfolding plain
-  plain-code = rw (next, add-one i, take-suc-set, append-assoc, sub-one)
-
-  plain-byte : (k : ℕ) → (k ≡ 0 → ⊥) → take i out ++ plain k (drop (i + 1) e) ≡ take (i + 1) (set out i (getD e (i + 1) 0)) ++ plain (k - 1) (drop (i + 1 + 1) e)
-  unfolding plain
-  plain-byte zero z = absurd (z refl)
-  plain-byte (suc k) z = rw (next, add-one i, take-suc-set, append-assoc, sub-one)
-
-  lacking-code : lacking 0 (drop (i + 1) e) ≡ lacking (getD e (i + 1) 0 - 1) (drop (i + 1 + 1) e)
-  unfolding lacking
-  lacking-code = rw (next, sub-one)
-
-  lacking-byte : (k : ℕ) → (k ≡ 0 → ⊥) → lacking k (drop (i + 1) e) ≡ lacking (k - 1) (drop (i + 1 + 1) e)
-  unfolding lacking
-  lacking-byte zero z = absurd (z refl)
-  lacking-byte (suc k) z = rw (next, sub-one)
-
-  rest-set : (b : ℕ) (l : List ℕ) → drop i out ≡ drop i l → drop (i + 1) (set out i b) ≡ drop (i + 1) l
-  rest-set b l q = rw (drop-set-lt (i + 1) out i b (omega arith), ← drop-drop 1 i out, q, drop-drop 1 i l)
-
--- i bytes of e's message stand in out, which was out₀ and has n bytes; left bytes of the current block are to come
-pub record Decoding (e out₀ out : List ℕ) (n left i : ℕ) : Type 0 where
-  pub within : i ≤ length e - 1
-  pub long : length out ≡ n
-  pub done : take i out ++ plain left (drop (i + 1) e) ≡ decodedPart e
-  pub lack : lacking left (drop (i + 1) e) ≡ lacking 0 e
-  pub rest : drop i out ≡ drop i out₀
-
--- the first code is read
-pub decoding : (e out : List ℕ) → 1 ≤ length e → Decoding e out out (length out) (getD e 0 0 - 1) 0
-unfolding plain lacking
-decoding [] out h = absurd (omega arith)
-decoding (c ∷ e) out h = record { within = omega arith; long = refl; done = rw sub-one; lack = rw sub-one; rest = refl }
-
-module _ (e out₀ out out′ : List ℕ) (n left left′ i : ℕ) (inv : Decoding e out₀ out n left i) (h : i < length e - 1) (o : length e - 1 ≤ n) where
-  fits : i < length out
-  fits = omega arith
-
-  more : i + 1 < length e
-  more = omega arith
-
-  pub decoding-code : left ≡ 0 → out′ ≡ set out i 0 → left′ ≡ getD e (i + 1) 0 - 1 → Decoding e out₀ out′ n left′ (i + 1)
-  decoding-code z p q = rw (p, q) record {
-    within = omega arith;
-    long = length-set out i 0 ∙ inv .long;
-    done = sym (plain-code out e i fits more) ∙ rw z at (inv .done);
-    lack = sym (lacking-code out e i fits more) ∙ rw z at (inv .lack);
-    rest = rest-set out e i fits more 0 out₀ (inv .rest);
-  }
-
-  pub decoding-byte : (left ≡ 0 → ⊥) → out′ ≡ set out i (getD e (i + 1) 0) → left′ ≡ left - 1 → Decoding e out₀ out′ n left′ (i + 1)
-  decoding-byte z p q = rw (p, q) record {
-    within = omega arith;
-    long = length-set out i (getD e (i + 1) 0) ∙ inv .long;
-    done = sym (plain-byte out e i fits more left z) ∙ inv .done;
-    lack = sym (lacking-byte out e i fits more left z) ∙ inv .lack;
-    rest = rest-set out e i fits more (getD e (i + 1) 0) out₀ (inv .rest);
-  }
-
-pub decoding-end : (e out₀ out : List ℕ) (n left i : ℕ) → Decoding e out₀ out n left i → length e - 1 ≤ i
-    → (left ≡ lacking 0 e) × (out ≡ decodedPart e ++ drop (length e - 1) out₀)
-unfolding plain lacking
-decoding-end e out₀ out n left i inv b =
-    let s : i ≡ length e - 1 = omega (arith, inv .within) in
-    let g : drop (i + 1) e ≡ [] = drop-of-length-le e {i = i + 1} (omega arith) in
-    (rw g at (inv .lack), rw (← inv .done, g, append-nil, ← s, ← inv .rest) (sym (take-append-drop i out)))
 
 -- Encoding from the back.
 

@@ -1,22 +1,20 @@
--- The stages of reading: where each refusal ends it, and what the working copy holds of an accepted packet.
-use Prim.Native.Nat.{ℕ, zero, suc, _+_, _-_, _≤_}
+-- The stages of reading: where each refusal ends it, and what a buffer holds of an accepted packet.
+use Prim.Native.Nat.{ℕ, zero, suc, _-_, _≤_, _<_}
 use mathlib.Core.Path.{_≡_, refl, sym, ap, _∙_}
-use mathlib.Core.List.{List, [], _∷_, _++_}
+use mathlib.Core.Bool.{Bool, true, false}
+use mathlib.Core.List.{List, _++_}
 use native.Mathlib.Nat.{suc-sub-suc, sub-zero, zero-sub}
 use native.Mathlib.Omega.{arith}
-use lib.ListN.{length, getD, take, drop, replicate, length-drop, length-append, length-replicate, List·getD-append}
-use lib.Seq.{take-at, length-take-le}
-use borrow.Author.Tests.{ne-eqb}
-use Rattle.packet.specs.Cobs.{plain, lacking, decodedPart}
+use lib.Dec.{eqb}
+use lib.ListN.{length, getD, drop, replicate, length-drop, length-replicate, List·getD-append}
+use lib.Seq.{length-take-le}
+use borrow.Author.Tests.{ne-eqb, lt-ltb, le-ltb, eqb-true, eqb-false}
+use Rattle.wire.specs.Area.{over}
+use Rattle.packet.specs.Cobs.{lacking, decodedPart}
 use Rattle.packet.specs.Message.{messageError}
-use Rattle.packet.specs.Packet.{PACKET_ROOM, accepted, frontError, packetError, lengthByte, partPresent, copyOf, refusal, acceptance, decoded}
-use Rattle.packet.proofs.FrontTests.{Front}
-
-length-plain : (k : ℕ) (e : List ℕ) → length (plain k e) ≡ length e
-unfolding plain
-length-plain k [] = refl
-length-plain zero (c ∷ e) = ap suc (length-plain _ e)
-length-plain (suc k) (b ∷ e) = ap suc (length-plain k e)
+use Rattle.packet.specs.Packet.{PACKET_ROOM, Judgement, refused, Reading, Filling, frontError, packetError, lengthByte, partPresent, copyOf, refusal, answered, acceptance, decoded, fillError, filled}
+use Rattle.packet.proofs.Walks.{length-plain}
+use Rattle.packet.proofs.FrontTests.{Front, front-passed, pass-on}
 
 pub length-decodedPart : (e : List ℕ) → length (decodedPart e) ≡ length e - 1
 length-decodedPart e = simp (length-drop, length-plain)
@@ -39,6 +37,10 @@ module _ (s : List ℕ) where
   unfolding packetError
   error-front n e z = simp (← e, ne-eqb _ _ z)
 
+  pub good-front : packetError s ≡ 0 → Front s
+  unfolding packetError
+  good-front e = front-passed s (pass-on (frontError s) _ e .0)
+
   module _ (f : frontError s ≡ 0) where
     pub error-lack : (lacking 0 (partPresent s) ≡ 0 → ⊥) → packetError s ≡ 5
     unfolding packetError
@@ -55,19 +57,51 @@ module _ (s : List ℕ) where
     pub length-message : length (decodedPart (partPresent s)) ≡ lengthByte s - 1
     length-message = length-decodedPart (partPresent s) ∙ ap (λ (n : ℕ). n - 1) length-part
 
-    -- the working copy after decoding
-    module _ (out : List ℕ) (e : out ≡ decodedPart (partPresent s) ++ drop (length (partPresent s) - 1) (replicate PACKET_ROOM 0)) where
-      copy-whole : out ≡ copyOf (decodedPart (partPresent s))
-      copy-whole = e ∙ ap (λ (l : List ℕ). decodedPart (partPresent s) ++ l) (drop-replicate (length (partPresent s) - 1) PACKET_ROOM ∙ ap (λ (n : ℕ). replicate (PACKET_ROOM - n) 0) (sym (length-decodedPart (partPresent s))))
+    -- the buffer behind a message that goes to its front
+    pub over-message : (buffer out : List ℕ) → out ≡ decodedPart (partPresent s) ++ drop (length (partPresent s) - 1) buffer → out ≡ over (decodedPart (partPresent s)) buffer
+    over-message buffer out e = e ∙ ap (λ (n : ℕ). decodedPart (partPresent s) ++ drop n buffer) (sym (length-decodedPart (partPresent s)))
 
-      pub copy-message : take (lengthByte s - 1) out ≡ decodedPart (partPresent s)
-      copy-message = rw e (take-at (decodedPart (partPresent s)) (drop (length (partPresent s) - 1) (replicate PACKET_ROOM 0)) (lengthByte s - 1) length-message)
+    pub first-over : (buffer : List ℕ) → getD (over (decodedPart (partPresent s)) buffer) 0 0 ≡ getD (decodedPart (partPresent s)) 0 0
+    first-over buffer = List·getD-append (decodedPart (partPresent s)) _ 0 0 (omega (arith, length-message, h .least))
 
-      pub copy-good : record { judgement = accepted (getD out 0 0) (lengthByte s - 4) (lengthByte s + 2); message = out } ≡ acceptance s
-      unfolding acceptance
-      copy-good =
-          let k : getD out 0 0 ≡ getD (decodedPart (partPresent s)) 0 0 = rw copy-whole (List·getD-append (decodedPart (partPresent s)) _ 0 0 (omega (arith, length-message, h .least))) in
-          rw (k, copy-whole)
+-- the outcomes of filling a buffer
+module _ (s buffer : List ℕ) where
+  pub filled-small : length buffer < PACKET_ROOM → record { judgement = refused 20; buffer = buffer } ≡ filled s buffer
+  unfolding filled fillError
+  filled-small h = simp (lt-ltb _ _ h)
 
-      pub copy-length : lengthByte s ≤ 255 → length out ≡ PACKET_ROOM
-      copy-length k = rw copy-whole (simp (length-append, length-replicate) (omega (arith, length-message)))
+  module _ (h : PACKET_ROOM ≤ length buffer) where
+    error-room : fillError s buffer ≡ packetError s
+    unfolding fillError
+    error-room = simp (le-ltb _ _ h)
+
+    pub filled-refused : (n : ℕ) → packetError s ≡ n → (n ≡ 0 → ⊥) → record { judgement = refused n; buffer = buffer } ≡ filled s buffer
+    unfolding filled
+    filled-refused n e z = simp (error-room, e, ne-eqb _ _ z)
+
+    pub filled-good : packetError s ≡ 0 → record { judgement = answered s; buffer = over (decodedPart (partPresent s)) buffer } ≡ filled s buffer
+    unfolding filled
+    filled-good e = simp (error-room, e)
+
+-- a buffer of zeros is the working copy
+pub over-zeros : (message : List ℕ) → over message (replicate PACKET_ROOM 0) ≡ copyOf message
+over-zeros message = ap (λ (l : List ℕ). message ++ l) (drop-replicate (length message) PACKET_ROOM)
+
+-- filling a buffer and reading beside a working copy judge alike
+pub fill-means : (s : List ℕ) (j : Judgement) (out : List ℕ) → record { judgement = j; buffer = out } ≡ filled s (replicate PACKET_ROOM 0) → record { judgement = j; message = out } ≡ decoded s
+unfolding refusal acceptance
+fill-means s j out e = by (eqb (packetError s) 0) refl
+  where
+    room : PACKET_ROOM ≤ length (replicate {A = ℕ} PACKET_ROOM 0)
+    room = omega (arith, length-replicate {A = ℕ} PACKET_ROOM 0)
+
+    reading : Filling → Reading
+    reading f = record { judgement = f .judgement; message = f .buffer }
+
+    by : (b : Bool) → eqb (packetError s) 0 ≡ b → record { judgement = j; message = out } ≡ decoded s
+    by true t =
+        ap reading (e ∙ sym (filled-good s (replicate PACKET_ROOM 0) room (eqb-true _ _ t)))
+        ∙ ap (λ (l : List ℕ). record { judgement = answered s; message = l }) (over-zeros (decodedPart (partPresent s))) ∙ decoded-good s (eqb-true _ _ t)
+    by false t =
+        ap reading (e ∙ sym (filled-refused s (replicate PACKET_ROOM 0) room (packetError s) refl (eqb-false _ _ t)))
+        ∙ decoded-refused s (packetError s) refl (eqb-false _ _ t)

@@ -1,10 +1,10 @@
 -- The tests of a packet's front, one after the other, and what holds where none refuses.
-use Prim.Native.Nat.{ℕ, suc, _+_, _-_, _≤_, _<_}
+use Prim.Native.Nat.{ℕ, zero, suc, _+_, _-_, _≤_, _<_}
 use mathlib.Core.Path.{_≡_, refl, sym, _∙_}
 use mathlib.Core.Bool.{Bool, true, false, not, cond}
 use mathlib.Core.List.{List}
 use native.Mathlib.Omega.{arith}
-use lib.Dec.{ltb, eqb}
+use lib.Dec.{ltb, eqb, eqb·suc-zero}
 use lib.ListN.{length, getD, take, drop, length-drop}
 use lib.Seq.{take-all}
 use borrow.Author.Tests.{eq-eqb, ne-eqb, lt-ltb, le-ltb, ltb-false, eqb-true, not-false}
@@ -59,6 +59,10 @@ part-whole s = let a : lengthByte s + 2 - 2 ≡ lengthByte s = omega arith in rw
 pub pass : (b : Bool) (n k : ℕ) → cond b (suc n) k ≡ 0 → (b ≡ false) × (k ≡ 0)
 pass true n k h = absurd (omega arith)
 pass false n k h = (refl, h)
+
+pub pass-on : (n k : ℕ) → cond (not (eqb n 0)) n k ≡ 0 → (n ≡ 0) × (k ≡ 0)
+pass-on zero k h = (refl, h)
+pass-on (suc n) k h = absurd (omega (arith, rw (eqb·suc-zero n) at h))
 
 pub not-eqb : (a b : ℕ) → not (eqb a b) ≡ false → a ≡ b
 not-eqb a b h = eqb-true a b (not-false (eqb a b) h)

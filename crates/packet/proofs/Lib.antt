@@ -1,8 +1,10 @@
 pub mod CobsSteps
-pub mod CobsBlocks
 pub mod Sums
+pub mod Walks
+pub mod CobsBlocks
 pub mod Lengths
 pub mod FrontTests
+pub mod MessageTests
 pub mod DecodeStages
 pub mod EncodeStages
 pub mod Accepted

@@ -6,6 +6,7 @@ use mathlib.Core.List.{List, [], _∷_, _++_}
 use lib.Dec.{eqb, ltb}
 use lib.ListN.{length, getD, take, drop, replicate}
 use Rattle.wire.specs.Zero.{hasZero}
+use Rattle.wire.specs.Area.{over}
 use Rattle.packet.specs.declared.Answer.{Answer}
 use Rattle.packet.specs.declared.Answer.the-variants.{Packet, Refused}
 use Rattle.packet.specs.Cobs.{Encodes, lacking, decodedPart}
@@ -80,13 +81,30 @@ packetError s =
 unfoldable pub refusal : ℕ → Reading
 refusal error = record { judgement = refused error; message = copyOf [] }
 
--- an accepted packet "answers the bytes it took (L+2)"; the working copy holds the message
+-- an accepted packet "answers the bytes it took (L+2)", beside its type and payload length
+abbrev pub answered : List ℕ → Judgement
+answered s = accepted (getD (decodedPart (partPresent s)) 0 0) (lengthByte s - 4) (lengthByte s + 2)
+
+-- the working copy holds the message of an accepted packet
 unfoldable pub acceptance : List ℕ → Reading
-acceptance s = record {
-  judgement = accepted (getD (decodedPart (partPresent s)) 0 0) (lengthByte s - 4) (lengthByte s + 2);
-  message = copyOf (decodedPart (partPresent s));
-}
+acceptance s = record { judgement = answered s; message = copyOf (decodedPart (partPresent s)) }
 
 -- "The reader judges the packet at the front of the bytes given": the executable judgement that `decode` answers
 unfoldable pub decoded : List ℕ → Reading
 decoded s = cond (eqb (packetError s) 0) (acceptance s) (refusal (packetError s))
+
+-- a judgement beside the lent buffer
+pub record Filling : Type 0 where
+  pub judgement : Judgement
+  pub buffer : List ℕ
+
+-- "the message goes to a lent packet area, 20 judged first"; 0 where nothing is refused
+unfoldable pub fillError : List ℕ → List ℕ → ℕ
+fillError s buffer = cond (ltb (length buffer) PACKET_ROOM) 20 (packetError s)
+
+-- a refusal changes nothing; "Success changes no part of an area beyond what was written": what `decode_into` answers
+unfoldable pub filled : List ℕ → List ℕ → Filling
+filled s buffer =
+    cond (eqb (fillError s buffer) 0)
+    (record { judgement = answered s; buffer = over (decodedPart (partPresent s)) buffer })
+    (record { judgement = refused (fillError s buffer); buffer = buffer })

@@ -1,10 +1,11 @@
-// Packets on a socket: 00, a length byte, a message in COBS blocks. Both calls answer for every input.
+// Packets on a socket: 00, a length byte, a message in COBS blocks. Every call answers for every input.
 mod cobs;
 mod message;
 mod read;
 mod write;
 
 pub use read::decode;
+pub use read::decode_into;
 pub use write::encode;
 
 // Room for any packet: the size of a working copy, and the least buffer that is written to.

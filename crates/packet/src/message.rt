@@ -4,9 +4,14 @@ use super::DEVICE_DATA;
 use super::DEVICE_WRITE;
 use super::LOG;
 use super::PING;
-ghost use Prim.Native.Nat.{_+_, _-_, _≤_, _<_};
+use super::cobs::first_byte;
+use super::cobs::second_byte;
+ghost use Prim.Native.Nat.{_-_, _≤_, _<_};
 ghost use mathlib.Core.Path.{_≡_};
+ghost use mathlib.Core.Bool.{false};
 ghost use lib.ListN.{length};
+ghost use Rattle.wire.specs.Zero.{hasZero};
+ghost use Rattle.packet.specs.Cobs.{decodedPart};
 ghost use Rattle.packet.specs.TypeTable.{allowed};
 ghost use Rattle.packet.specs.Message.{xorFrom, messageError};
 
@@ -37,19 +42,19 @@ pub fn is_allowed(kind: u8, n: usize) -> bool
     }
 }
 
-// The error of a message, 0 where there is none.
-pub fn message_error(m: &[u8]) -> u8
-    requires { ⌜ 3 ≤ length (now m) ⌝ }
-    ensures { λ r. ⌜ r ≡ messageError (now (m .entry)) ⌝ }
+// The error of a part's message with that exclusive or of all its bytes, 0 where there is none.
+pub fn message_error(part: &[u8], sum: u8) -> u8
+    requires { ⌜ (4 ≤ length (now part)) × (hasZero (now part) ≡ false) × (sum ≡ xorFrom 0 (decodedPart (now part))) ⌝ }
+    ensures { λ r. ⌜ r ≡ messageError (decodedPart (now (part .entry))) ⌝ }
 {
-    let n = m.len();
-    if m[1] as usize != n - 3 {
+    let n = part.len() - 4;
+    if second_byte(part) as usize != n {
         return 6;
     }
-    if xor_from(0, &m[..n - 1]) != m[n - 1] {
+    if sum != 0 {
         return 7;
     }
-    if !is_allowed(m[0], n - 3) {
+    if !is_allowed(first_byte(part), n) {
         return 8;
     }
     0

@@ -1,88 +1,77 @@
--- `message_error` is `messageError`, one test after the other.
-use Prim.Native.Nat.{_-_}
-use mathlib.Core.Path.{sym, _∙_}
+-- `message_error` is `messageError` of a part's message, one test after the other.
+use Prim.Native.Nat.{ℕ, _-_, _≤_}
+use mathlib.Core.Path.{_≡_, sym, ap, _∙_}
+use mathlib.Core.Bool.{Bool, not, cond}
+use mathlib.Core.List.{List}
 use native.Mathlib.Omega.{arith}
-use lib.ListN.{length, take, getD}
-use lib.Seq.{length-take-le}
+use lib.ListN.{length, getD}
 use borrow.Author.Needs.{needs}
-use borrow.Author.Tests.{eq-eqb, ne-eqb, not-true, not-false}
-use Rattle.packet.specs.Message.{messageError, xorFrom}
+use borrow.Author.Tests.{not-true, not-false}
+use Rattle.packet.specs.Cobs.{decodedPart}
+use Rattle.packet.specs.TypeTable.{allowed}
+use Rattle.packet.specs.Message.{messageError}
+use Rattle.packet.proofs.DecodeStages.{length-decodedPart}
+use Rattle.packet.proofs.MessageTests.{test-length, test-sum, test-type}
 use Rattle.packet.proofs.message.message_error.Statement.{statement}
 use Rattle.packet.proofs.message.message_error.Tie as tie
 
-shared-slice-read-if1 : tie.Need-shared-slice-read-if1
-shared-slice-read-if1 c = search needs
+abbrev E : tie.After-second-byte → List ℕ
+E c = c .before .before .args .part .now
+
+size : (c : tie.After-second-byte) → length (decodedPart (E c)) - 3 ≡ length (E c) - 4
+size c = omega (arith, length-decodedPart (E c))
+
+some : (c : tie.After-second-byte) → 1 ≤ length (decodedPart (E c))
+some c = omega (arith, length-decodedPart (E c), c .before .before .pre .0)
+
+-- past the tests of length and sum
+typed : (c : tie.Else2) → messageError (decodedPart (E (c .before .before))) ≡ cond (not (allowed (getD (decodedPart (E (c .before .before))) 0 0) (length (E (c .before .before)) - 4))) 8 0
+typed c = let b = c .before .before in
+    test-type _ _ (size b) (some b) (sym (b .second-byte .ensures) ∙ c .before .if1 .left) (sym (b .before .before .pre .2) ∙ c .if2 .left)
+
+answer : (c : tie.After-is-allowed) → allowed (getD (decodedPart (E (c .before .before .before .before))) 0 0) (length (E (c .before .before .before .before)) - 4) ≡ c .is-allowed .result
+answer c = sym (c .is-allowed .ensures ∙ ap (λ (k : ℕ). allowed k (length (E (c .before .before .before .before)) - 4)) (c .before .first-byte .ensures))
+
+sub-n : tie.Need-sub-n
+sub-n c = search needs
+
+second-byte-requires : tie.Need-second-byte-requires
+second-byte-requires c κs = search needs
 
 cast-if1 : tie.Need-cast-if1
-cast-if1 c = omega (arith, c .shared-slice-known2 .given 1)
-
-sub-if1 : tie.Need-sub-if1
-sub-if1 c = search needs
+cast-if1 c = search needs
 
 returns : tie.Need-returns
-unfolding messageError
-returns c = simp (ne-eqb _ _ (c .if1 .taken))
-
-sub-xor-from : tie.Need-sub-xor-from
-sub-xor-from c = search needs
-
-slice-aggregate-xor-from : tie.Need-slice-aggregate-xor-from
-slice-aggregate-xor-from c = sym (length-take-le _ _ (search needs))
-
-xor-from-requires : tie.Need-xor-from-requires
-xor-from-requires c κs = search needs
-
-sub-if2 : tie.Need-sub-if2
-sub-if2 c = search needs
-
-shared-slice-read-if2 : tie.Need-shared-slice-read-if2
-shared-slice-read-if2 c = search needs
+returns c = let b = c .before in sym (test-length _ _ (size b) (some b) (λ e. c .if1 .taken (b .second-byte .ensures ∙ e)))
 
 returns-2 : tie.Need-returns-2
-unfolding messageError
-returns-2 c = let b = c .before .before .before .before in
-    let m = b .before .before .before .args .m .now in
-    simp (eq-eqb _ _ (b .if1 .left), ne-eqb (xorFrom 0 (take (length m - 1) m)) (getD m (length m - 1) 0) (λ e. c .if2 .taken (c .before .before .xor-from .ensures ∙ e)))
+returns-2 c = let b = c .before .before in
+    sym (test-sum _ _ (size b) (some b) (sym (b .second-byte .ensures) ∙ c .before .if1 .left) (λ e. c .if2 .taken (b .before .before .pre .2 ∙ e)))
 
-shared-slice-read-is-allowed : tie.Need-shared-slice-read-is-allowed
-shared-slice-read-is-allowed c = search needs
-
-sub-is-allowed : tie.Need-sub-is-allowed
-sub-is-allowed c = search needs
+first-byte-requires : tie.Need-first-byte-requires
+first-byte-requires c κs = search needs
 
 is-allowed-requires : tie.Need-is-allowed-requires
 is-allowed-requires c κs = search needs
 
 returns-3 : tie.Need-returns-3
-unfolding messageError
-returns-3 c = let b = c .before .before .before .before .before .before .before in
-    let d = c .before .before .before in
-    let m = b .before .before .before .args .m .now in
-    simp (eq-eqb _ _ (b .if1 .left), eq-eqb (xorFrom 0 (take (length m - 1) m)) (getD m (length m - 1) 0) (sym (d .before .before .xor-from .ensures) ∙ d .if2 .left), ← c .before .is-allowed .ensures, not-true (c .before .is-allowed .result) (c .if3 .taken))
+returns-3 c = let a = c .before in
+    sym (typed (a .before .before) ∙ ap (λ (b : Bool). cond (not b) 8 0) (answer a ∙ not-true (a .is-allowed .result) (c .if3 .taken)))
 
 returns-4 : tie.Need-returns-4
-unfolding messageError
-returns-4 c = let b = c .before .before .before .before .before .before .before in
-    let d = c .before .before .before in
-    let m = b .before .before .before .args .m .now in
-    simp (eq-eqb _ _ (b .if1 .left), eq-eqb (xorFrom 0 (take (length m - 1) m)) (getD m (length m - 1) 0) (sym (d .before .before .xor-from .ensures) ∙ d .if2 .left), ← c .before .is-allowed .ensures, not-false (c .before .is-allowed .result) (c .if3 .left))
+returns-4 c = let a = c .before in
+    sym (typed (a .before .before) ∙ ap (λ (b : Bool). cond (not b) 8 0) (answer a ∙ not-false (a .is-allowed .result) (c .if3 .left)))
 
 pub message-error-spec : {M : Type 1} → statement M
 message-error-spec =
     tie.close
     (tie.spec
-    shared-slice-read-if1
+    sub-n
+    second-byte-requires
     cast-if1
-    sub-if1
     returns
-    sub-xor-from
-    slice-aggregate-xor-from
-    xor-from-requires
-    sub-if2
-    shared-slice-read-if2
     returns-2
-    shared-slice-read-is-allowed
-    sub-is-allowed
+    first-byte-requires
     is-allowed-requires
     returns-3
     returns-4)
