@@ -6,7 +6,7 @@ use mathlib.Core.List.{List, [], _∷_, _++_, append-assoc, append-nil}
 use native.Mathlib.Nat.{zero-add}
 use native.Mathlib.Omega.{arith}
 use lib.Bits.{bitXor}
-use lib.ListN.{length, getD, set, take, drop, length-append, length-drop, length-set, drop-of-length-le, take-append-drop}
+use lib.ListN.{length, getD, set, take, drop, length-append, length-take, length-drop, length-set, drop-of-length-le, take-append-drop}
 use lib.Seq.{drop-cons, drop-drop, drop-at, take-add, take-all, set-at, sets-eq, length-take-le}
 use Rattle.wire.specs.Area.{putAt}
 use Rattle.wire.specs.Zero.{hasZero}
@@ -176,8 +176,38 @@ fill-next e out₀ out i f h p =
           ∙ ap (λ (x : List ℕ). drop 1 x ++ t) (sym (b .1));
     }
 
+pub fill-one : (e out₀ out : List ℕ) (i : ℕ) → Fill e out₀ out i → i < length e → getD e i 0 ≡ 1 → Fill e out₀ (set out (i - 1) 0) (i + 1)
+fill-one e out₀ out i f h p = subst (λ (c : ℕ). Fill e out₀ (set out (i - 1) 0) (i + c)) p (fill-next e out₀ out i f h (omega arith))
+
 pub fill-end : (e out₀ out : List ℕ) (i : ℕ) → Fill e out₀ out i → length e ≤ i → out ≡ decodedPart e ++ drop (length e - 1) out₀
 fill-end e out₀ out i f h = f .holds ∙ ap (λ (x : List ℕ). drop 1 x ++ drop (length e - 1) out₀) (halfway-end e i h)
+
+length-halfway : (e : List ℕ) (i : ℕ) → length (halfway e i) ≡ length e
+length-halfway e i = simp (length-append, length-take, length-drop) (omega (arith, length-plain 0 e))
+
+fill-behind : (e out₀ out : List ℕ) (i : ℕ) → Fill e out₀ out i → drop (length e - 1) out ≡ drop (length e - 1) out₀
+fill-behind e out₀ out i f =
+    ap (drop (length e - 1)) (f .holds)
+    ∙ drop-at (drop 1 (halfway e i)) (drop (length e - 1) out₀) (length e - 1) (length-drop 1 (halfway e i) ∙ ap (λ (n : ℕ). n - 1) (length-halfway e i))
+
+-- a fill may be taken up again from where it has come to
+pub fill-again : (e out₀ out : List ℕ) (i : ℕ) → Fill e out₀ out i → Fill e out out i
+fill-again e out₀ out i f = record {
+  walk = f .walk;
+  past = f .past;
+  room = omega (arith, f .room, f .long);
+  long = refl;
+  holds = f .holds ∙ ap (λ (l : List ℕ). drop 1 (halfway e i) ++ l) (sym (fill-behind e out₀ out i f));
+}
+
+pub fill-on : (e out₀ out out′ : List ℕ) (i j : ℕ) → Fill e out₀ out i → Fill e out out′ j → Fill e out₀ out′ j
+fill-on e out₀ out out′ i j f g = record {
+  walk = g .walk;
+  past = g .past;
+  room = f .room;
+  long = g .long ∙ f .long;
+  holds = g .holds ∙ ap (λ (l : List ℕ). drop 1 (halfway e j) ++ l) (fill-behind e out₀ out i f);
+}
 
 -- The first two bytes of a message.
 

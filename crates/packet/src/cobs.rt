@@ -54,6 +54,7 @@ pub fn walk(part: &[u8], all: u8) -> Walked
 }
 
 // Decodes a part into the front of the buffer: all but the first code is copied, then each code becomes a zero.
+// Codes 1 in a row, zeros in a row of the message, need no look at how far the next code is.
 pub fn decode_part(part: &[u8], message: &mut [u8])
     requires { ⌜ (1 ≤ length (now part)) × (length (now part) ≤ 255) × (hasZero (now part) ≡ false) × (length (now part) - 1 ≤ length (now message)) ⌝ }
     ensures { λ _. ⌜ now (message .exit) ≡ decodedPart (now (part .entry)) ++ drop (length (now (part .entry)) - 1) (now (message .entry)) ⌝ }
@@ -63,6 +64,10 @@ pub fn decode_part(part: &[u8], message: &mut [u8])
     while i < part.len() {
         message[i - 1] = 0;
         i += part[i] as usize;
+        while i < part.len() && part[i] == 1 {
+            message[i - 1] = 0;
+            i += 1;
+        }
     }
 }
 
