@@ -49,6 +49,56 @@ typedef struct {
  */
 cinder_packet_result cinder_packet_decode(const uint8_t *bytes, size_t bytes_len, uint8_t *message, size_t message_len);
 
+/* The least lengths of the areas that a list is read into. */
+#define CINDER_ROWS_ROOM 12288
+#define CINDER_STORE_ROOM 4096
+
+typedef struct {
+    uint64_t error, consumed, rows, offset;
+} cinder_list_result;
+
+/*
+ * Reads the list at the front of `bytes`; later bytes are ignored.
+ *
+ * On success error and offset are 0, consumed is the size of the list in bytes and rows
+ * is the number of its rows. The rows stand at the front of `rows`: 12 bytes each, three
+ * numbers of 32 bits, in the order of the list's bytes, so a list before its elements and
+ * all of an element before the next:
+ *
+ *   list    256, number of elements, 0
+ *   int       1, bits, 0
+ *   vocab     9, bits, 0
+ *   float    10, low half, high half
+ *   string    4, offset in the store, length without the closing zero
+ *   blob     12, offset in the store, length
+ *
+ * The strings and blobs stand at the front of `store`, back to back in row order. Nothing
+ * behind the rows or behind the last byte stored has changed.
+ *
+ * On an error consumed and rows are 0 and both areas are as they were. Error is 20 at
+ * offset 0 or else the first fault from the front, and offset is where the item at fault
+ * begins:
+ *
+ *   20  rows_len is below CINDER_ROWS_ROOM, or store_len is below CINDER_STORE_ROOM
+ *
+ * Items are codes, counts, fixed elements, lengths, and the bytes of a string or a blob.
+ * Every item is judged for these, in this order, and then for its own fault:
+ *
+ *   28  the item would end beyond 4,096 bytes of the list
+ *   21  the bytes end inside the item
+ *
+ *   22  the code of the outermost list is not a list code
+ *   26  the code of an element is unknown
+ *   27  the code of a list that is nested deeper than 8
+ *   23  a count below 0
+ *   25  a string length below 1, a blob length below 0, or string bytes whose last is
+ *       not 0 or that have a 0 before it
+ *   24  a typed list of 0 elements, judged at its count, or a 256 list of at least one
+ *       element, all of one kind other than list, judged after the last; the offset is
+ *       that of the list's code
+ */
+cinder_list_result cinder_list_decode(const uint8_t *bytes, size_t bytes_len, uint8_t *rows, size_t rows_len, uint8_t *store, size_t store_len);
+
 #ifdef __cplusplus
 }
 #endif

@@ -1,1 +1,2 @@
 pub mod PacketAnswers
+pub mod ListAnswers

@@ -1,1 +1,2 @@
 pub mod PacketCall
+pub mod ListCall
