@@ -1,4 +1,5 @@
-// The hub: what its users call, in one place. A packet is received with its socket, a device detaches, one parameter is read.
+// The hub: what its users call, in one place. A packet is received with its socket, a device detaches,
+// one parameter is read, the table is published.
 mod inbound;
 
 pub use attach::detach;
@@ -6,6 +7,8 @@ pub use inbound::receive;
 pub use parameters::Content;
 pub use parameters::Reading;
 pub use parameters::read_parameter;
+pub use publish::Published;
+pub use publish::publish;
 pub use table::Answer;
 pub use table::PARAMS;
 pub use table::SLOTS;
