@@ -16,10 +16,10 @@ use Rattle.list.proofs.Same.{same-exactly}
 use Rattle.list_decode.specs.declared.Decoded.the-variants as decoded
 use Rattle.list_decode.specs.Decode.{outcome}
 use Rattle.stream.specs.declared.Step.the-variants as step
-use Rattle.stream.specs.Step.{Form, numbers}
+use Rattle.stream.specs.Step.{Form, numbers, packedNumbers}
 use Rattle.stream.specs.Series.{Lending, series}
 use Rattle.stream.specs.Run.{LegalRun, runBytes, Opens, StartsNone, passedOver, behind, expected}
-use Rattle.stream.proofs.Reading.{Reads, numbers-read}
+use Rattle.stream.proofs.Reading.{Reads, numbers-read, packed-read}
 use Rattle.stream.proofs.Runs.{Split, runs-injective, no-list-opens-another, refused, any-bytes}
 use Rattle.stream.proofs.Handing.{closed, passed-over, from-offset}
 
@@ -119,5 +119,9 @@ module _ (form : Form) (reads : Reads form) where
     covers = any-bytes;
   }
 
+-- for `next`, and for `next_packed`
 pub demand-3 : Demand3 numbers
 demand-3 = demand-3-of numbers numbers-read
+
+pub demand-3-packed : Demand3 packedNumbers
+demand-3-packed = demand-3-of packedNumbers packed-read

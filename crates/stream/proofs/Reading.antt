@@ -10,7 +10,8 @@ use Rattle.list.specs.Rows.{listStore, rowCount}
 use Rattle.list.specs.Parse.{good, bad, parse}
 use Rattle.list_decode.specs.declared.Decoded.the-variants as decoded
 use Rattle.list_decode.specs.Decode.{outcome, decodeOf}
-use Rattle.stream.specs.Step.{Form, numbers}
+use Rattle.list_decode.specs.Packed.{decodePackedOf}
+use Rattle.stream.specs.Step.{Form, numbers, packedNumbers}
 
 -- where the room is enough, a list found is handed over and a fault is answered as it is
 pub record Reads (form : Form) : Type 0 where
@@ -22,3 +23,7 @@ pub record Reads (form : Form) : Type 0 where
 pub numbers-read : Reads numbers
 unfolding decodeOf
 numbers-read = record { found = λ s rows store es n r p. rw (r, p); fault = λ s rows store error offset r p. rw (r, p) }
+
+pub packed-read : Reads packedNumbers
+unfolding decodePackedOf
+packed-read = record { found = λ s rows store es n r p. rw (r, p); fault = λ s rows store error offset r p. rw (r, p) }

@@ -9,6 +9,7 @@ use Rattle.list.specs.Rows.{listRows}
 use Rattle.list_decode.specs.declared.Decoded.{Decoded}
 use Rattle.list_decode.specs.declared.Decoded.the-variants as decoded
 use Rattle.list_decode.specs.Decode.{Outcome, outcome, roomy, decodeOf}
+use Rattle.list_decode.specs.Packed.{packed, packedRoomy, decodePackedOf}
 use Rattle.stream.specs.declared.Step.{Step}
 use Rattle.stream.specs.declared.Step.the-variants as step
 
@@ -21,6 +22,10 @@ pub record Form : Type 0 where
 -- "rows of three 32-bit numbers"
 abbrev pub numbers : Form
 numbers = record { enough = roomy; decode = decodeOf; written = listRows }
+
+-- "There a row is 12 bytes, low byte first"
+abbrev pub packedNumbers : Form
+packedNumbers = record { enough = packedRoomy; decode = decodePackedOf; written = λ es. packed (listRows es) }
 
 -- list reading's answer, its offset counted from the stream's front
 abbrev pub counted : ℕ → Decoded → Step

@@ -2,11 +2,14 @@
 ghost use Prim.Native.Nat.{_+_, _<_};
 ghost use mathlib.Core.Path.{_≡_};
 ghost use Rattle.list_decode.specs.Decode.{outcome};
-ghost use Rattle.stream.specs.Step.{numbers, counted, stepOf};
+ghost use Rattle.stream.specs.Step.{numbers, packedNumbers, counted, stepOf};
 ghost use Rattle.stream.specs.Judged.{judgedOf, Countable};
 use list::LIST_LIMIT;
 use list::ROW_NUMBERS;
 use list_decode::Decoded;
+
+// The room that rows must have as bytes, four to a number.
+const ROW_BYTES: usize = 4 * ROW_NUMBERS;
 
 // What a step answers. Offsets are counted from the front of the stream.
 pub enum Step {
@@ -31,6 +34,21 @@ pub fn next(bytes: &[u8], offset: usize, rows: &mut [u32], store: &mut [u8]) -> 
         Judged::Answer(step) => step,
         Judged::Inside => {
             let decoded = list_decode::decode(&bytes[offset..], rows, store);
+            count(offset, decoded)
+        }
+    }
+}
+
+// The same for callers whose rows are bytes: a row is 12 bytes, low byte first.
+pub fn next_packed(bytes: &[u8], offset: usize, rows: &mut [u8], store: &mut [u8]) -> Step
+    ensures { λ r. ⌜ outcome r (now (rows .exit)) (now (store .exit)) ≡ stepOf packedNumbers (now (bytes .entry)) offset (now (rows .entry)) (now (store .entry)) ⌝ }
+{
+    let enough = (ROW_BYTES <= rows.len()) & (LIST_LIMIT <= store.len());
+    let judged = judge(enough, bytes.len(), offset);
+    match judged {
+        Judged::Answer(step) => step,
+        Judged::Inside => {
+            let decoded = list_decode::decode_packed(&bytes[offset..], rows, store);
             count(offset, decoded)
         }
     }
