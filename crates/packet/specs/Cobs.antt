@@ -28,7 +28,7 @@ pub record Encodes (part message : List ℕ) : Type 0 where
   pub zeroless : hasZero part ≡ false
   pub meant : restored blocks ≡ message
 
--- THE EXECUTABLE FORM, byte by byte, which the code follows; proofs/CobsBlocks.antt shows that it agrees with the meaning.
+-- THE EXECUTABLE FORM, byte by byte; proofs/CobsBlocks.antt shows that it agrees with the meaning, proofs/Walks.antt that going from code to code gives the same.
 -- The bytes that a part stands for where `left` bytes of the current block are still to come; each code becomes a 00.
 unfoldable pub plain : ℕ → List ℕ → List ℕ
 plain left [] = []

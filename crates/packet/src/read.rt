@@ -16,13 +16,14 @@ struct Front {
     sum: u8,
 }
 
+// A front with that error.
 fn refused(error: u8) -> Front
     ensures { λ r. ⌜ r .error ≡ error ⌝ }
 {
     Front { error, sum: 0 }
 }
 
-// The error of the bytes before the first that the blocks can have, 0 where there is none.
+// The error of what stands before the blocks, 0 where there is none; one pass over the part finds a 00 and the exclusive or.
 fn front_error(bytes: &[u8]) -> Front
     ensures { λ r. ⌜ (r .error ≡ frontError (now (bytes .entry))) × (r .error ≡ 0 → r .sum ≡ xorFrom 0 (partPresent (now (bytes .entry)))) ⌝ }
 {
