@@ -99,6 +99,29 @@ typedef struct {
  */
 cinder_list_result cinder_list_decode(const uint8_t *bytes, size_t bytes_len, uint8_t *rows, size_t rows_len, uint8_t *store, size_t store_len);
 
+/*
+ * Reads the list that begins at `offset` of `bytes`, a stream of lists end to end. A first
+ * call has offset 0; each later one adds what the last consumed.
+ *
+ * On success the answer and both areas are as cinder_list_decode has them for the bytes
+ * from `offset` on.
+ *
+ * At the end of the stream, where offset is bytes_len, all four numbers are 0 and both
+ * areas are as they were. No other answer has error 0 and consumed 0. Only error 20 is
+ * judged before the end.
+ *
+ * On an error consumed and rows are 0 and both areas are as they were. Error is the first
+ * of these, in this order:
+ *
+ *   20  rows_len is below CINDER_ROWS_ROOM, or store_len is below CINDER_STORE_ROOM; its
+ *       offset is 0
+ *   21  offset is above bytes_len; its offset is that offset
+ *
+ * or the error of cinder_list_decode for the bytes from `offset` on, its offset counted
+ * from the front of `bytes`.
+ */
+cinder_list_result cinder_stream_next(const uint8_t *bytes, size_t bytes_len, uint64_t offset, uint8_t *rows, size_t rows_len, uint8_t *store, size_t store_len);
+
 #ifdef __cplusplus
 }
 #endif

@@ -1,2 +1,4 @@
 pub mod PacketAnswers
 pub mod ListAnswers
+pub mod Numbered
+pub mod StreamAnswers

@@ -1,2 +1,3 @@
 pub mod PacketCall
 pub mod ListCall
+pub mod StreamCall
