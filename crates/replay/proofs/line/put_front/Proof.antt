@@ -1,0 +1,26 @@
+-- `put_front` is safe: the bytes are part of the list.
+use mathlib.Core.Path.{sym}
+use native.Mathlib.Omega.{arith}
+use lib.Seq.{length-take-le}
+use borrow.Author.Needs.{needs}
+use Rattle.replay.proofs.line.put_front.Statement.{statement}
+use Rattle.replay.proofs.line.put_front.Tie as tie
+
+slice-aggregate-put-bytes : tie.Need-slice-aggregate-put-bytes
+slice-aggregate-put-bytes c = sym (length-take-le _ _ (omega arith))
+
+put-bytes-requires : tie.Need-put-bytes-requires
+put-bytes-requires c κs = search needs
+
+same-length : tie.Need-same-length
+same-length c = search needs
+
+returns : tie.Need-returns
+returns c = search needs
+
+returns-2 : tie.Need-returns-2
+returns-2 c = search needs
+
+pub put-front-spec : {M : Type 1} → statement M
+put-front-spec =
+    tie.close (tie.spec slice-aggregate-put-bytes put-bytes-requires same-length returns returns-2)

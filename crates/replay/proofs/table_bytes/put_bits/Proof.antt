@@ -1,0 +1,64 @@
+-- `put_bits` is safe and ends. The invariant: the parameter is at most 32, and the output keeps its length.
+use Prim.Native.Nat.{_-_, _≤_}
+use mathlib.Core.Path.{_≡_}
+use lib.ListN.{length}
+use borrow.Author.Needs.{needs}
+use Rattle.replay.proofs.table_bytes.put_bits.Statement.{statement}
+use Rattle.replay.proofs.table_bytes.put_bits.Tie as tie
+
+abbrev Inv-loop : tie.InvT-loop
+Inv-loop out₀ used s at₀ p₀ out at p = (p ≤ 32) × (length out ≡ length out₀)
+
+abbrev μ-loop : tie.MeasureT-loop
+μ-loop out₀ used s at₀ p₀ out at p = 32 - p
+
+loop-holds : tie.Need-loop-holds Inv-loop μ-loop
+loop-holds c = search needs
+
+mul-bytes32 : tie.Need-mul-bytes32 Inv-loop μ-loop
+mul-bytes32 c = search needs
+
+element-copy-out-bytes32 : tie.Need-element-copy-out-bytes32 Inv-loop μ-loop
+element-copy-out-bytes32 c = search needs
+
+bytes32-requires : tie.Need-bytes32-requires Inv-loop μ-loop
+bytes32-requires c κs = search needs
+
+slice-aggregate-put-bytes : tie.Need-slice-aggregate-put-bytes Inv-loop μ-loop
+slice-aggregate-put-bytes c = search needs
+
+put-bytes-requires : tie.Need-put-bytes-requires Inv-loop μ-loop
+put-bytes-requires c κs = search needs
+
+add-p : tie.Need-add-p Inv-loop μ-loop
+add-p c = search needs
+
+loop-less : tie.Need-loop-less Inv-loop μ-loop
+loop-less c = search needs
+
+loop-again : tie.Need-loop-again Inv-loop μ-loop
+loop-again c = search needs
+
+same-length : tie.Need-same-length Inv-loop μ-loop
+same-length c = search needs
+
+returns : tie.Need-returns Inv-loop μ-loop
+returns c = search needs
+
+pub put-bits-spec : {M : Type 1} → statement M
+put-bits-spec =
+    tie.close
+    (tie.spec
+    Inv-loop
+    μ-loop
+    loop-holds
+    mul-bytes32
+    element-copy-out-bytes32
+    bytes32-requires
+    slice-aggregate-put-bytes
+    put-bytes-requires
+    add-p
+    loop-less
+    loop-again
+    same-length
+    returns)

@@ -1,0 +1,27 @@
+-- The records that replay reads, by their first byte.
+use Prim.Native.Nat.{ℕ, _+_, _≤_}
+use mathlib.Core.Bool.{cond}
+use mathlib.Core.List.{List}
+use lib.Dec.{eqb}
+use lib.ListN.{length, getD}
+use Rattle.wire.specs.Number.{numberAt}
+
+-- "four seats of 172 bytes"
+abbrev pub TABLE_BYTES : ℕ
+TABLE_BYTES = 688
+
+-- the bytes of a record: "01, socket, two-byte length, packet bytes", 02 to 06; 0 where it is unknown
+unfoldable pub recordSize : List ℕ → ℕ
+recordSize s =
+    cond (eqb (getD s 0 0) 1) (4 + numberAt 2 s 2)
+    (cond (eqb (getD s 0 0) 2) 2
+    (cond (eqb (getD s 0 0) 3) 1
+    (cond (eqb (getD s 0 0) 4) 3
+    (cond (eqb (getD s 0 0) 5) (1 + TABLE_BYTES)
+    (cond (eqb (getD s 0 0) 6) 1
+    0)))))
+
+-- a known record, not cut short
+pub record Whole (s : List ℕ) : Type 0 where
+  pub known : 1 ≤ recordSize s
+  pub present : recordSize s ≤ length s
