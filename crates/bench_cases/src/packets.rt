@@ -3,6 +3,12 @@ use super::show;
 use packet::Answer;
 use packet::Encoded;
 
+// "ACK, type 7, year 6, UID 01 to 08"
+pub const ACK: [u8; 16] = [0, 14, 14, 2, 10, 7, 6, 1, 2, 3, 4, 5, 6, 7, 8, 1];
+
+// "DEVICE_DATA, map 5, 7 and true"
+pub const DEVICE_DATA: [u8; 15] = [0, 13, 4, 4, 9, 5, 1, 1, 2, 7, 1, 1, 3, 1, 14];
+
 // Whether the packet of this type and payload has these bytes.
 fn is_written_as(kind: u8, payload: &[u8], bytes: &[u8]) -> bool {
     let mut buffer = [0u8; packet::PACKET_ROOM];
@@ -52,9 +58,6 @@ pub fn run() {
     case(b"PING, L 03", &[0, 3, 2, 1, 2, 1]);
     case(b"PING, first four bytes", &[0, 4, 2, 1]);
     case(b"00 04 02 00", &[0, 4, 2, 0]);
-    case(b"ACK", &[0, 14, 14, 2, 10, 7, 6, 1, 2, 3, 4, 5, 6, 7, 8, 1]);
-    case(
-        b"DEVICE_DATA",
-        &[0, 13, 4, 4, 9, 5, 1, 1, 2, 7, 1, 1, 3, 1, 14],
-    );
+    case(b"ACK", &ACK);
+    case(b"DEVICE_DATA", &DEVICE_DATA);
 }

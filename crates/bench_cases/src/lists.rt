@@ -1,0 +1,248 @@
+// Lists: read into rows, and written again where they were accepted.
+use super::show;
+use list::LIST_LIMIT;
+use list::ROW_NUMBERS;
+use list_decode::Decoded;
+use list_encode::Encoded;
+
+// The most numbers of a case: one more than a list may have.
+const NUMBERS: usize = LIST_LIMIT / 4 + 1;
+
+// The rows of a list up to this many are shown.
+const SHOWN: usize = 12;
+
+// Whether the list of these rows and this store has these bytes.
+fn is_written_as(rows: &[u32], store: &[u8], bytes: &[u8]) -> bool {
+    let mut buffer = [0u8; LIST_LIMIT];
+    let e = list_encode::encode(rows, store, &mut buffer);
+    let Encoded::Written(n) = e else {
+        return false;
+    };
+    if LIST_LIMIT < n {
+        return false;
+    }
+    check::same(&buffer[0..n], bytes)
+}
+
+fn written_again(rows: &[u32], store: &[u8], bytes: &[u8]) {
+    if is_written_as(rows, store, bytes) {
+        show::text(b", written again the same");
+    }
+}
+
+fn contents(rows: &[u32], store: &[u8]) {
+    if rows.len() <= 3 * SHOWN {
+        show::rows(b":", rows);
+        if store.len() != 0 {
+            show::hex(b", store ", store);
+        }
+    }
+}
+
+fn accepted(bytes: &[u8], rows: &[u32], store: &[u8], used: usize) {
+    if store.len() < used {
+        return;
+    }
+    let in_use = &store[0..used];
+    written_again(rows, in_use, bytes);
+    contents(rows, in_use);
+}
+
+// The list at the front of the bytes, with `used` bytes in the store.
+pub fn case(name: &[u8], bytes: &[u8], used: usize) {
+    let mut rows = [0u32; ROW_NUMBERS];
+    let mut store = [0u8; LIST_LIMIT];
+    show::text(name);
+    let d = list_decode::decode(bytes, &mut rows, &mut store);
+    match d {
+        Decoded::List { consumed, rows: n } => {
+            show::number(b": bytes ", consumed);
+            show::number(b" rows ", n);
+            if n <= ROW_NUMBERS / 3 {
+                accepted(bytes, &rows[0..3 * n], &store, used);
+            }
+        }
+        Decoded::Refused { error, offset } => {
+            show::number(b": refused ", error as usize);
+            show::number(b" at ", offset);
+        }
+    }
+    show::text(b"\n");
+}
+
+fn put_number(buffer: &mut [u8], i: usize, x: u32) {
+    if i < NUMBERS {
+        wire::put_u32(buffer, 4 * i, x);
+    }
+}
+
+fn put_numbers(buffer: &mut [u8], s: &[u32]) {
+    let mut i = 0;
+    while i < s.len() {
+        put_number(buffer, i, s[i]);
+        i += 1;
+    }
+}
+
+// The list of these numbers.
+fn numbers(name: &[u8], s: &[u32]) {
+    if NUMBERS < s.len() {
+        return;
+    }
+    let mut buffer = [0u8; 4 * NUMBERS];
+    put_numbers(&mut buffer, s);
+    case(name, &buffer[0..4 * s.len()], 0);
+}
+
+// n NetInts.
+fn ints(name: &[u8], n: usize) {
+    if NUMBERS - 2 < n {
+        return;
+    }
+    let mut s = [5u32; NUMBERS];
+    s[0] = 257;
+    s[1] = n as u32;
+    numbers(name, &s[0..n + 2]);
+}
+
+// (91 92 93) (this is a "good list")
+fn two_lists() {
+    case(
+        b"Two lists",
+        &[
+            0,
+            1,
+            0,
+            0,
+            2,
+            0,
+            0,
+            0,
+            1,
+            1,
+            0,
+            0,
+            3,
+            0,
+            0,
+            0,
+            91,
+            0,
+            0,
+            0,
+            92,
+            0,
+            0,
+            0,
+            93,
+            0,
+            0,
+            0,
+            4,
+            1,
+            0,
+            0,
+            4,
+            0,
+            0,
+            0,
+            5,
+            0,
+            0,
+            0,
+            b't',
+            b'h',
+            b'i',
+            b's',
+            0,
+            3,
+            0,
+            0,
+            0,
+            b'i',
+            b's',
+            0,
+            2,
+            0,
+            0,
+            0,
+            b'a',
+            0,
+            10,
+            0,
+            0,
+            0,
+            b'g',
+            b'o',
+            b'o',
+            b'd',
+            b' ',
+            b'l',
+            b'i',
+            b's',
+            b't',
+            0,
+        ],
+        16,
+    );
+}
+
+// Lists that each hold the next one, the innermost empty.
+fn nested() {
+    numbers(
+        b"Eight nested lists",
+        &[
+            256,
+            1,
+            256,
+            1,
+            256,
+            1,
+            256,
+            1,
+            256,
+            1,
+            256,
+            1,
+            256,
+            1,
+            256,
+            0,
+        ],
+    );
+    numbers(
+        b"Nine nested lists",
+        &[
+            256,
+            1,
+            256,
+            1,
+            256,
+            1,
+            256,
+            1,
+            256,
+            1,
+            256,
+            1,
+            256,
+            1,
+            256,
+            1,
+            256,
+            0,
+        ],
+    );
+}
+
+pub fn run() {
+    numbers(b"Primes", &[257, 8, 2, 3, 5, 7, 11, 13, 17, 19]);
+    two_lists();
+    numbers(b"256 0", &[256, 0]);
+    numbers(b"257 0", &[257, 0]);
+    numbers(b"256 1 1 5", &[256, 1, 1, 5]);
+    numbers(b"512 0", &[512, 0]);
+    nested();
+    ints(b"1022 NetInts", 1022);
+    ints(b"1023 NetInts", 1023);
+}
