@@ -53,7 +53,7 @@ fn plain(a: u32, b: u32, c: u32, next: usize) -> Item
     }
 }
 
-// A string's or a blob's row: `len` bytes in the store, `size` in the list.
+// A string's or a blob's row: `len` bytes from `used` on in the store.
 fn stored(a: u32, used: usize, len: u32, next: usize) -> Item
     requires { ⌜ used < 2 ^ 32 ⌝ }
     ensures { λ r. ⌜ r ≡ storedItem a used len next ⌝ }

@@ -65,8 +65,11 @@ pub fn decode_packed(bytes: &[u8], rows: &mut [u8], store: &mut [u8]) -> Decoded
     match c {
         Checked::Bad(error, offset) => Decoded::Refused { error, offset },
         Checked::Ok(consumed) => {
-            let n = packed::fill(bytes, consumed, rows, store);
-            Decoded::List { consumed, rows: n }
+            let filled = packed::fill(bytes, consumed, rows, store);
+            Decoded::List {
+                consumed,
+                rows: filled,
+            }
         }
     }
 }
