@@ -53,14 +53,20 @@ fn receive(name: &[u8], t: Table, bytes: &[u8]) -> Table {
     r.table
 }
 
+// The bytes of the published list, and its rows, with the UID in the store.
+fn published(bytes: &[u8]) {
+    show::hex(b"Published: ", bytes);
+    show::text(b"\n");
+    lists::case(b"Published, read", bytes, 8);
+}
+
 fn publish(t: Table) {
     let mut buffer = [0u8; LIST_LIMIT];
     let p = publish::publish(&CATALOGUE_C, t, &mut buffer);
     match p {
         Published::Written(n) => {
             if n <= LIST_LIMIT {
-                show::hex(b"Published: ", &buffer[0..n]);
-                lists::case(b"\nPublished, read", &buffer[0..n], 8);
+                published(&buffer[0..n]);
             }
         }
         Published::Refused(n) => show::number(b"Published: refused ", n as usize),
