@@ -105,134 +105,41 @@ fn ints(name: &[u8], n: usize) {
     numbers(name, &s[0..n + 2]);
 }
 
+// A string's length, and its bytes with the zero.
+fn put_string(buffer: &mut [u8], at: usize, s: &[u8]) {
+    if LIST_LIMIT < at {
+        return;
+    }
+    if LIST_LIMIT < s.len() {
+        return;
+    }
+    wire::put_u32(buffer, at, s.len() as u32);
+    wire::copy_at(buffer, at + 4, s);
+}
+
 // (91 92 93) (this is a "good list")
 fn two_lists() {
-    case(
-        b"Two lists",
-        &[
-            0,
-            1,
-            0,
-            0,
-            2,
-            0,
-            0,
-            0,
-            1,
-            1,
-            0,
-            0,
-            3,
-            0,
-            0,
-            0,
-            91,
-            0,
-            0,
-            0,
-            92,
-            0,
-            0,
-            0,
-            93,
-            0,
-            0,
-            0,
-            4,
-            1,
-            0,
-            0,
-            4,
-            0,
-            0,
-            0,
-            5,
-            0,
-            0,
-            0,
-            b't',
-            b'h',
-            b'i',
-            b's',
-            0,
-            3,
-            0,
-            0,
-            0,
-            b'i',
-            b's',
-            0,
-            2,
-            0,
-            0,
-            0,
-            b'a',
-            0,
-            10,
-            0,
-            0,
-            0,
-            b'g',
-            b'o',
-            b'o',
-            b'd',
-            b' ',
-            b'l',
-            b'i',
-            b's',
-            b't',
-            0,
-        ],
-        16,
-    );
+    let mut buffer = [0u8; 72];
+    put_numbers(&mut buffer, &[256, 2, 257, 3, 91, 92, 93, 260, 4]);
+    put_string(&mut buffer, 36, b"this\0");
+    put_string(&mut buffer, 45, b"is\0");
+    put_string(&mut buffer, 52, b"a\0");
+    put_string(&mut buffer, 58, b"good list\0");
+    case(b"Two lists", &buffer, 16);
 }
 
 // Lists that each hold the next one, the innermost empty.
 fn nested() {
-    numbers(
-        b"Eight nested lists",
-        &[
-            256,
-            1,
-            256,
-            1,
-            256,
-            1,
-            256,
-            1,
-            256,
-            1,
-            256,
-            1,
-            256,
-            1,
-            256,
-            0,
-        ],
-    );
-    numbers(
-        b"Nine nested lists",
-        &[
-            256,
-            1,
-            256,
-            1,
-            256,
-            1,
-            256,
-            1,
-            256,
-            1,
-            256,
-            1,
-            256,
-            1,
-            256,
-            1,
-            256,
-            0,
-        ],
-    );
+    let mut four = [0u8; 32];
+    put_numbers(&mut four, &[256, 1, 256, 1, 256, 1, 256, 1]);
+    let mut buffer = [0u8; 72];
+    wire::copy_at(&mut buffer, 0, &four);
+    wire::copy_at(&mut buffer, 32, &four);
+    wire::put_u32(&mut buffer, 60, 0);
+    case(b"Eight nested lists", &buffer[0..64], 0);
+    wire::put_u32(&mut buffer, 60, 1);
+    wire::put_u32(&mut buffer, 64, 256);
+    case(b"Nine nested lists", &buffer, 0);
 }
 
 pub fn run() {
