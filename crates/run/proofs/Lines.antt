@@ -7,7 +7,7 @@ use native.Mathlib.Omega.{arith}
 use native.Mathlib.Nat.{add-zero}
 use lib.ListN.{length, drop, length-append, length-drop}
 use lib.Seq.{drop-at, drop-drop}
-use borrow.Author.Tests.{eq-eqb, ne-eqb}
+use borrow.Author.Tests.{eq-eqb, ne-eqb, lt-ltb, le-ltb}
 use Rattle.wire.specs.Number.{Bytes}
 use Rattle.list.specs.Tree.{Elements}
 use Rattle.list.specs.Bytes.{listBytes}
@@ -16,7 +16,8 @@ use Rattle.stream.specs.declared.Step.the-variants as step
 use Rattle.stream.specs.Run.{LegalRun, runBytes, StartsNone, behind}
 use Rattle.stream.proofs.Runs.{some-bytes, reads-front}
 use Rattle.stream.proofs.Handing.{Closed, closed}
-use Rattle.run.specs.Text.{listLine, listLines, lastLine, printed, answerAt, textFrom, textOf}
+use Rattle.run.specs.Limits.{inputLimit}
+use Rattle.run.specs.Text.{listLine, listLines, lastLine, tooLong, printed, answerAt, textFrom, textOf, programText}
 
 -- the answer where a legal list stands, and behind the run
 answer-list : (s : List ℕ) (offset : ℕ) (es : Elements) (x : List ℕ) → offset < length s → drop offset s ≡ listBytes es ++ x
@@ -66,3 +67,18 @@ text-printed run rest l b n =
     lines-from run (runBytes run ++ rest) rest 0 1 (suc (length (runBytes run ++ rest))) l (closed rest b n) (omega arith) refl
     (omega (arith, many-bytes run, length-append (runBytes run) rest))
     ∙ ap (λ (z : ℕ). listLines 1 run ++ lastLine z (behind z rest)) (omega arith)
+
+-- the limit of the input
+pub within-limit : (s : List ℕ) → length s ≤ inputLimit → programText s ≡ textOf s
+unfolding programText
+within-limit s h = rw (le-ltb inputLimit (length s) h)
+
+pub over-limit : (s : List ℕ) → inputLimit < length s → programText s ≡ tooLong
+unfolding programText
+over-limit s h = rw (lt-ltb inputLimit (length s) h)
+
+-- LAW: what the program prints for a run and bytes that start with no legal list, within the limit
+pub program-printed :
+    (run : List Elements) (rest : List ℕ) → LegalRun run → Bytes rest → StartsNone rest → length (runBytes run ++ rest) ≤ inputLimit
+    → programText (runBytes run ++ rest) ≡ printed run rest
+program-printed run rest l b n h = within-limit (runBytes run ++ rest) h ∙ text-printed run rest l b n

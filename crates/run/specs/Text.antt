@@ -12,7 +12,7 @@ use Rattle.list.specs.Parse.{Parsed, good, bad, parse}
 use Rattle.stream.specs.declared.Step.{Step}
 use Rattle.stream.specs.declared.Step.the-variants as step
 use Rattle.stream.specs.Run.{runBytes, behind}
-use Rattle.run.specs.Limits.{digitRoom}
+use Rattle.run.specs.Limits.{inputLimit, digitRoom}
 
 -- a number in decimal, with at most `most` digits
 unfoldable pub decimalOf : ℕ → ℕ → List ℕ
@@ -38,6 +38,10 @@ endLine offset = ((101 ∷ 110 ∷ 100 ∷ 32 ∷ []) ++ decimal offset) ++ (10 
 unfoldable pub stopLine : ℕ → ℕ → List ℕ
 stopLine error offset =
     ((115 ∷ 116 ∷ 111 ∷ 112 ∷ 32 ∷ []) ++ decimal error) ++ (((32 ∷ 97 ∷ 116 ∷ 32 ∷ []) ++ decimal offset) ++ (10 ∷ []))
+
+-- `too long`
+unfoldable pub tooLong : List ℕ
+tooLong = 116 ∷ 111 ∷ 111 ∷ 32 ∷ 108 ∷ 111 ∷ 110 ∷ 103 ∷ 10 ∷ []
 
 -- the lines of a run's lists, the first of them the k-th
 abbrev pub listLines : ℕ → List Elements → List ℕ
@@ -74,3 +78,7 @@ textFrom (suc fuel) s offset k = lineAnd (λ consumed. textFrom fuel s (offset +
 -- a list has a byte or more, so a step for each byte and one more are enough
 abbrev pub textOf : List ℕ → List ℕ
 textOf s = textFrom (suc (length s)) s 0 1
+
+-- "over 32,768 bytes it prints `too long`": what the program prints for the bytes that it reads
+unfoldable pub programText : List ℕ → List ℕ
+programText s = cond (ltb inputLimit (length s)) tooLong (textOf s)

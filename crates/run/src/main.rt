@@ -6,7 +6,7 @@ ghost use lib.ListN.{length, take};
 ghost use Rattle.io.specs.Counts.{Counts};
 ghost use Rattle.list.specs.Limits.{rowRoom, storeRoom};
 ghost use Rattle.run.specs.Limits.{inputLimit, digitRoom, lineRoom, textRoom};
-ghost use Rattle.run.specs.Text.{decimal, listLine, endLine, stopLine, textOf};
+ghost use Rattle.run.specs.Text.{decimal, listLine, endLine, stopLine, textOf, programText};
 ghost use Rattle.run.specs.Added.{Added};
 use libc::STDIN_FILENO;
 use libc::STDOUT_FILENO;
@@ -23,10 +23,6 @@ const TEXT_ROOM: usize = 327680;
 fn main() {
     let mut input = [0u8; INPUT_LIMIT + 1];
     let n = io::read_full(STDIN_FILENO, &mut input);
-    if INPUT_LIMIT < n {
-        io::write_all(STDOUT_FILENO, b"too long\n");
-        return;
-    }
     let mut rows = [0u32; ROW_NUMBERS];
     let mut store = [0u8; LIST_LIMIT];
     let mut text = [0u8; TEXT_ROOM];
@@ -34,8 +30,19 @@ fn main() {
     io::write_all(STDOUT_FILENO, &text[..used]);
 }
 
-// All lines of a stream; answers the bytes of text.
+// What is printed for the bytes that were read; answers the bytes of text.
 fn report(bytes: &[u8], rows: &mut [u32], store: &mut [u8], text: &mut [u8]) -> usize
+    requires { ⌜ (length (now rows) ≡ rowRoom) × (length (now store) ≡ storeRoom) × (length (now text) ≡ textRoom) ⌝ }
+    ensures { λ r. ⌜ (take r (now (text .exit)) ≡ programText (now (bytes .entry))) × Counts r (now (text .exit)) ⌝ }
+{
+    if INPUT_LIMIT < bytes.len() {
+        return put(text, 0, b"too long\n");
+    }
+    stream_text(bytes, rows, store, text)
+}
+
+// All lines of a stream.
+fn stream_text(bytes: &[u8], rows: &mut [u32], store: &mut [u8], text: &mut [u8]) -> usize
     requires { ⌜ (length (now bytes) ≤ inputLimit) × (length (now rows) ≡ rowRoom) × (length (now store) ≡ storeRoom) × (length (now text) ≡ textRoom) ⌝ }
     ensures { λ r. ⌜ (take r (now (text .exit)) ≡ textOf (now (bytes .entry))) × Counts r (now (text .exit)) ⌝ }
 {

@@ -1,10 +1,9 @@
 -- `run::main` meets its contract: what `report` asks of the arrays, and that the text lies within its buffer.
-use Prim.Native.Nat.{ℕ, _≤_}
-use mathlib.Core.Path.{subst}
+use Prim.Native.Nat.{ℕ}
 use lib.ListN.{length-replicate}
 use borrow.Author.Needs.{needs}
 use Rattle.list.specs.Limits.{rowRoom, storeRoom}
-use Rattle.run.specs.Limits.{inputLimit, textRoom}
+use Rattle.run.specs.Limits.{textRoom}
 use Rattle.run.proofs.main.Statement.{statement}
 use Rattle.run.proofs.main.Tie as tie
 
@@ -13,15 +12,6 @@ slice-aggregate-read-full c = search needs
 
 read-full-requires : tie.Need-read-full-requires
 read-full-requires c κs = search needs
-
-slice-aggregate-write-all : tie.Need-slice-aggregate-write-all
-slice-aggregate-write-all c = search needs
-
-write-all-requires : tie.Need-write-all-requires
-write-all-requires c κs = search needs
-
-returns : tie.Need-returns
-returns c = search needs
 
 array-share-prefix-input : tie.Need-array-share-prefix-input
 array-share-prefix-input c = search needs
@@ -39,24 +29,19 @@ slice-aggregate-report-4 : tie.Need-slice-aggregate-report-4
 slice-aggregate-report-4 c = search needs
 
 report-requires : tie.Need-report-requires
-report-requires c κs = (
-  subst (λ (k : ℕ). k ≤ inputLimit) (c .before .before .before .before .before .before .read-full .ensures .1) (c .before .before .before .before .if1 .left),
-  length-replicate {A = ℕ} rowRoom 0,
-  length-replicate {A = ℕ} storeRoom 0,
-  length-replicate {A = ℕ} textRoom 0,
-)
+report-requires c κs = (length-replicate {A = ℕ} rowRoom 0, length-replicate {A = ℕ} storeRoom 0, length-replicate {A = ℕ} textRoom 0)
 
 array-share-prefix-text : tie.Need-array-share-prefix-text
 array-share-prefix-text c = search needs
 
-slice-aggregate-write-all-2 : tie.Need-slice-aggregate-write-all-2
-slice-aggregate-write-all-2 c = c .before .before .before .before .report .ensures .1 .1
+slice-aggregate-write-all : tie.Need-slice-aggregate-write-all
+slice-aggregate-write-all c = c .before .before .before .before .report .ensures .1 .1
 
-write-all-requires-2 : tie.Need-write-all-requires-2
-write-all-requires-2 c κs = search needs
+write-all-requires : tie.Need-write-all-requires
+write-all-requires c κs = search needs
 
-returns-2 : tie.Need-returns-2
-returns-2 c = search needs
+returns : tie.Need-returns
+returns c = search needs
 
 pub main-spec : {M : Type 1} → statement M
 main-spec =
@@ -64,9 +49,6 @@ main-spec =
     (tie.spec
     slice-aggregate-read-full
     read-full-requires
-    slice-aggregate-write-all
-    write-all-requires
-    returns
     array-share-prefix-input
     slice-aggregate-report
     slice-aggregate-report-2
@@ -74,6 +56,6 @@ main-spec =
     slice-aggregate-report-4
     report-requires
     array-share-prefix-text
-    slice-aggregate-write-all-2
-    write-all-requires-2
-    returns-2)
+    slice-aggregate-write-all
+    write-all-requires
+    returns)
