@@ -9,4 +9,5 @@ pub mod Emitted
 pub mod Encoding
 pub mod Legality
 pub mod RoundTrips
+pub mod ReadBack
 pub mod Cases

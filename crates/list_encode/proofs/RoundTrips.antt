@@ -88,7 +88,7 @@ written-legal rows store buffer n w b h =
     let x = past-refusal (ltb (length buffer) listLimit) 20 n buffer _ h in
     option-kept rows store buffer n w b (described rows store) refl (x .1) (room-kept rows store buffer _ refl (x .0))
 
-take-over : (bs buffer : List ℕ) (n : ℕ) → n ≡ length bs → take n (over bs buffer) ≡ bs
+pub take-over : (bs buffer : List ℕ) (n : ℕ) → n ≡ length bs → take n (over bs buffer) ≡ bs
 take-over bs buffer n h = take-at bs (drop (length bs) buffer) n (sym h)
 
 -- LAW: what was written, with anything behind it, reads back as the list with those rows and that store
