@@ -303,13 +303,13 @@ one-list (list i (value v es)) used c h = absurd (omega arith)
 one-list (list i (list k es)) used c h = absurd (omega arith)
 
 -- rows and store are those of this list, and its strings, counts and lengths are as they may be
-pub record Told (rows store : List ℕ) (es : Elements) : Type 0 where
+pub record DescribedBy (rows store : List ℕ) (es : Elements) : Type 0 where
   pub rows-are : rows ≡ listRows es
   pub store-is : store ≡ listStore es
   pub few : natural (count es) ≡ true
   pub fine : allowed es ≡ true
 
-pub shape-sound : (rows store : List ℕ) → listShape rows store ≡ true → (es : Elements) × Told rows store es
+pub shape-sound : (rows store : List ℕ) → listShape rows store ≡ true → (es : Elements) × DescribedBy rows store es
 unfolding listShape
 shape-sound rows store h =
     let x = both (eqb (getD rows 0 0) listCode) _ h in

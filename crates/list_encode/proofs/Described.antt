@@ -14,7 +14,7 @@ use Rattle.list.specs.Tree.{Value, Elements, int, vocab, float, str, blob, none
 use Rattle.list.specs.Rows.{valueStore, elementStore, valueRow, elementRows, listRows, listStore}
 use Rattle.list_encode.specs.Described.{firstOf, restOf, elementsOf, outermost, natural, allowed, same, describes, described}
 use Rattle.list_encode.proofs.Rows.{clash, both, part-is}
-use Rattle.list_encode.proofs.Accepted.{past-value, past-list, Told}
+use Rattle.list_encode.proofs.Accepted.{past-value, past-list, DescribedBy}
 
 -- the elements of a list, then others
 unfoldable joined : Elements → Elements → Elements
@@ -105,30 +105,30 @@ pub described-complete : (es : Elements) → natural (count es) ≡ true → all
 unfolding described describes
 described-complete es n l = rw (read-back es, same-refl (listRows es), same-refl (listStore es), n, l)
 
-describes-told : (rows store : List ℕ) (es : Elements) → describes rows store es ≡ true → Told rows store es
+describes-by : (rows store : List ℕ) (es : Elements) → describes rows store es ≡ true → DescribedBy rows store es
 unfolding describes
-describes-told rows store es h =
+describes-by rows store es h =
     let x = both (same rows (listRows es)) _ h in
     let y = both (same store (listStore es)) _ (x .1) in
     let z = both (natural (count es)) _ (y .1) in
     record { rows-are = same-equal _ _ (x .0); store-is = same-equal _ _ (y .0); few = z .0; fine = z .1 }
 
 -- rows and store that describe a list are its rows and its store
-pub described-sound : (rows store : List ℕ) (es : Elements) → described rows store ≡ some es → Told rows store es
+pub described-sound : (rows store : List ℕ) (es : Elements) → described rows store ≡ some es → DescribedBy rows store es
 unfolding described
 described-sound rows store es = go (describes rows store (outermost (elementsOf store rows))) refl
   where
-    go : (b : Bool) → describes rows store (outermost (elementsOf store rows)) ≡ b → cond b (some (outermost (elementsOf store rows))) option.none ≡ some es → Told rows store es
+    go : (b : Bool) → describes rows store (outermost (elementsOf store rows)) ≡ b → cond b (some (outermost (elementsOf store rows))) option.none ≡ some es → DescribedBy rows store es
     go true e h =
         let f : outermost (elementsOf store rows) ≡ es = cc in
-        describes-told rows store es (ap (describes rows store) (sym f) ∙ e)
+        describes-by rows store es (ap (describes rows store) (sym f) ∙ e)
     go false e h = let z : _≡_ {A = ℕ} 0 1 = cc in absurd (omega arith)
 
 -- rows and store that are those of no list describe none
-pub described-none : (rows store : List ℕ) → ((es : Elements) → Told rows store es → ⊥) → described rows store ≡ option.none
+pub described-none : (rows store : List ℕ) → ((es : Elements) → DescribedBy rows store es → ⊥) → described rows store ≡ option.none
 unfolding described
 described-none rows store never = go (describes rows store (outermost (elementsOf store rows))) refl
   where
     go : (b : Bool) → describes rows store (outermost (elementsOf store rows)) ≡ b → cond b (some (outermost (elementsOf store rows))) option.none ≡ option.none
-    go true e = absurd (never _ (describes-told rows store _ e))
+    go true e = absurd (never _ (describes-by rows store _ e))
     go false e = refl

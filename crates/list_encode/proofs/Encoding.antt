@@ -23,7 +23,7 @@ use Rattle.list_encode.specs.Flat.{flatOf}
 use Rattle.list_encode.proofs.Rows.{clash, both}
 use Rattle.list_encode.proofs.Shapes.{shape-stored}
 use Rattle.list_encode.proofs.Emits.{capped-low, capped-high, emit-size, sets-over}
-use Rattle.list_encode.proofs.Accepted.{Told, shape-complete, shape-sound}
+use Rattle.list_encode.proofs.Accepted.{DescribedBy, shape-complete, shape-sound}
 use Rattle.list_encode.proofs.Described.{described-complete, described-none}
 use Rattle.list_encode.proofs.Depths.{deep-is}
 use Rattle.list_encode.proofs.Emitted.{emit-list}
@@ -39,10 +39,10 @@ passed-is : (es : Elements) (buffer : List ℕ) → passed (listRows es) (listSt
 unfolding passed writtenList
 passed-is es buffer = rw (deep-is es, emit-list es)
 
-shaped-is : (rows store buffer : List ℕ) (es : Elements) → Told rows store es → passed rows store buffer ≡ answered listLimit buffer (described rows store)
+shaped-is : (rows store buffer : List ℕ) (es : Elements) → DescribedBy rows store es → passed rows store buffer ≡ answered listLimit buffer (described rows store)
 shaped-is rows store buffer es t = rw (t .rows-are, t .store-is, described-complete es (t .few) (t .fine)) (passed-is es buffer)
 
-unshaped : (rows store : List ℕ) → listShape rows store ≡ false → (es : Elements) → Told rows store es → ⊥
+unshaped : (rows store : List ℕ) → listShape rows store ≡ false → (es : Elements) → DescribedBy rows store es → ⊥
 unshaped rows store h es t =
     let y : listShape rows store ≡ true = rw (t .rows-are, t .store-is) (shape-complete es (t .few) (t .fine)) in
     clash (sym h ∙ y)

@@ -45,12 +45,12 @@ restOf (suc n) (list inner es) = restOf n es
 abbrev pub listOf : ℕ → Elements → Elements
 listOf n es = list (firstOf n es) (restOf n es)
 
--- an element in front of others; a row of an unknown code tells of nothing
+-- an element in front of others; a row of an unknown code describes nothing
 abbrev pub valueBefore : List ℕ → ℕ → ℕ → Elements → KindFound → Elements
 valueBefore store second third es (Is k) = value (valueOf store second third k) es
 valueBefore store second third es Unknown = none
 
--- the elements that rows tell of, each row taken at its word
+-- the elements that rows describe, before any test
 unfoldable pub elementsOf : List ℕ → List ℕ → Elements
 elementsOf store [] = none
 elementsOf store (code ∷ []) = none

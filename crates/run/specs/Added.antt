@@ -1,4 +1,4 @@
--- Text that is put together piece by piece in a buffer.
+-- Internal: text that is put together piece by piece in a buffer.
 use Prim.Native.Nat.{ℕ, _+_}
 use mathlib.Core.Path.{_≡_}
 use mathlib.Core.List.{List, _++_}

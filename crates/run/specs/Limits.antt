@@ -9,7 +9,7 @@ inputLimit = 32768
 abbrev pub digitRoom : ℕ
 digitRoom = 20
 
--- the longest line has three labels of 18 bytes, three numbers and a newline
+-- the longest line has three labels, 18 bytes together, three numbers and a newline
 abbrev pub lineRoom : ℕ
 lineRoom = 79
 

@@ -22,7 +22,7 @@ abbrev pub LegalRun : List Elements → Type 0
 LegalRun [] = Unit {0}
 LegalRun (es ∷ run) = Legal listLimit es × LegalRun run
 
--- "Lay lists end to end"
+-- Demand 3: "Lay lists end to end"
 abbrev pub runBytes : List Elements → List ℕ
 runBytes [] = []
 runBytes (es ∷ run) = listBytes es ++ runBytes run
