@@ -90,7 +90,7 @@ common-kinds k l = rw (ne-eqb (codeOf k) 0 (λ e. omega (arith, code-low k .0)))
     go false e = inr refl
 
 -- 256 stays 256
-common-mixed : (es : Elements) → commonOf listCode es ≡ listCode
+pub common-mixed : (es : Elements) → commonOf listCode es ≡ listCode
 common-mixed none = refl
 common-mixed (value v es) = rw (ne-eqb listCode (codeOf (kind v)) (λ e. omega (arith, code-low (kind v) .1))) (common-mixed es)
 common-mixed (list inner es) = common-mixed es

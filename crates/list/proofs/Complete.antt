@@ -21,7 +21,7 @@ use Rattle.list.proofs.RowBound.{value-size}
 use Rattle.list.proofs.Items.{Stands, stands-front, stands-length, stands-behind, stands-take, word-of, fault-none}
 
 -- a string's run is closed by its zero
-no-zero : (bs : List ℕ) → NoZero bs → hasZero bs ≡ false
+pub no-zero : (bs : List ℕ) → NoZero bs → hasZero bs ≡ false
 unfolding hasZero
 no-zero [] h = refl
 no-zero (zero ∷ bs) h = absurd (h .0 refl)

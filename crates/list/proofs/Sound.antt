@@ -27,7 +27,7 @@ use Rattle.list.proofs.Codes.{code-of-kind}
 use Rattle.list.proofs.Items.{bytes-take, bytes-drop, fault-fits}
 
 -- a closed run is a string's bytes
-zero-none : (bs : List ℕ) → hasZero bs ≡ false → NoZero bs
+pub zero-none : (bs : List ℕ) → hasZero bs ≡ false → NoZero bs
 unfolding hasZero
 zero-none [] h = tt
 zero-none (zero ∷ bs) h = absurd (let z : _≡_ {A = ℕ} 0 1 = cc in omega arith)

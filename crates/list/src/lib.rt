@@ -8,6 +8,9 @@ pub const LIST_LIMIT: usize = 4096;
 // "rows under 3,072 numbers": three numbers for each of 1,024 rows.
 pub const ROW_NUMBERS: usize = 3072;
 
+// The same room where rows are lent as bytes, four to a number.
+pub const ROW_BYTES: usize = 4 * ROW_NUMBERS;
+
 // "A list may stand inside a list to depth 8, the outermost being 1."
 pub const DEPTH_LIMIT: usize = 8;
 

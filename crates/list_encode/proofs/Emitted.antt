@@ -14,15 +14,15 @@ use Rattle.list.specs.Kind.{codeOf, kindOf, listCode, typedCode}
 use Rattle.list.specs.Tree.{Value, Elements, int, vocab, float, str, blob, none, value, list, kind, count}
 use Rattle.list.specs.Bytes.{number, valueBytes, common, commonOf, codeFor, listCodeOf, elementBytes, listBytes}
 use Rattle.list.specs.Rows.{valueStore, elementStore, valueRow, elementRows, listRows, listStore}
-use Rattle.list.proofs.Codes.{code-low, typed-no-list, AllKind, CodeIs, mixed, typed, code-is}
+use Rattle.list.proofs.Codes.{code-low, common-mixed, typed-no-list, AllKind, CodeIs, mixed, typed, code-is}
 use Rattle.list_encode.specs.Row.{stored}
 use Rattle.list_encode.specs.Emit.{kindBytes, foundBytes, commonIn, typedOr, codeAhead, rowBytes, leftAfter, emit}
 use Rattle.list_encode.proofs.Rows.{part-is}
 use Rattle.list_encode.proofs.Accepted.{past-value, past-list, used-value, used-list}
 
 -- WHAT CODES HAVE IN COMMON
-common-mixed : (code : ℕ) → common listCode code ≡ listCode
-common-mixed code = go (eqb listCode code) refl
+common-list : (code : ℕ) → common listCode code ≡ listCode
+common-list code = go (eqb listCode code) refl
   where
     go : (b : Bool) → eqb listCode code ≡ b → cond b code listCode ≡ listCode
     go true e = sym (eqb-true listCode code e)
@@ -32,11 +32,6 @@ same-code : (a b : Bool) → cond a listCode (cond b listCode listCode) ≡ list
 same-code true b = refl
 same-code false true = refl
 same-code false false = refl
-
-mixed-stays : (es : Elements) → commonOf listCode es ≡ listCode
-mixed-stays none = refl
-mixed-stays (value v es) = rw (common-mixed (codeOf (kind v))) (mixed-stays es)
-mixed-stays (list i es) = mixed-stays es
 
 common-low : (seen code : ℕ) → code < listCode → common seen code ≤ listCode
 common-low seen code h = go (eqb seen 0) (eqb seen code)
@@ -66,7 +61,7 @@ ahead-mixed zero rows = refl
 ahead-mixed (suc n) [] = refl
 ahead-mixed (suc n) (a ∷ []) = refl
 ahead-mixed (suc n) (a ∷ b ∷ []) = refl
-ahead-mixed (suc n) (a ∷ b ∷ c ∷ rows) = rw (common-mixed a) (ahead-mixed n rows)
+ahead-mixed (suc n) (a ∷ b ∷ c ∷ rows) = rw (common-list a) (ahead-mixed n rows)
 
 ahead-value : (v : Value) (used seen n : ℕ) (rows : List ℕ) → commonIn seen (suc n) (valueRow used v ++ rows) ≡ commonIn (common seen (codeOf (kind v))) n rows
 unfolding commonIn
@@ -83,7 +78,7 @@ ahead-is (value v es) used seen rows =
     let u : ℕ = used + length (valueStore v) in
     rw (append-assoc (valueRow used v) (elementRows u es) rows)
     (ahead-value v used seen (count es) (elementRows u es ++ rows) ∙ ahead-is es u (common seen (codeOf (kind v))) rows)
-ahead-is (list i es) used seen rows = rw (same-code (eqb seen 0) (eqb seen listCode), ahead-mixed (count es) _) (sym (mixed-stays es))
+ahead-is (list i es) used seen rows = rw (same-code (eqb seen 0) (eqb seen listCode), ahead-mixed (count es) _) (sym (common-mixed es))
 
 ahead-code : (es : Elements) (used : ℕ) (rows : List ℕ) → typedOr (commonIn 0 (count es) (elementRows used es ++ rows)) ≡ listCodeOf es
 ahead-code es used rows = ap typedOr (ahead-is es used 0 rows) ∙ typed-or (commonOf 0 es) (commonOf-low 0 es (omega arith))

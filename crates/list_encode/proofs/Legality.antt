@@ -1,7 +1,7 @@
 -- What is described is a list of legal values, and every legal list can be described.
 use Prim.Native.Nat.{ℕ, zero, suc, _+_, _-_, _^_, _≤_, _<_}
-use mathlib.Core.Path.{_≡_, refl, sym}
-use mathlib.Core.Bool.{true, false, not}
+use mathlib.Core.Path.{_≡_, refl}
+use mathlib.Core.Bool.{true, not}
 use mathlib.Core.Logic.{_↔_}
 use mathlib.Core.List.{List, [], _∷_, _++_}
 use mathlib.Core.Option.{some}
@@ -15,24 +15,14 @@ use Rattle.list.specs.Limits.{depthLimit}
 use Rattle.list.specs.Tree.{Value, Elements, int, vocab, float, str, blob, none, value, list, count}
 use Rattle.list.specs.Bytes.{listCodeOf, elementBytes, listBytes}
 use Rattle.list.specs.Rows.{valueStore, elementStore, valueRow, elementRows, elementCount, listRows, listStore}
-use Rattle.list.specs.Legal.{NoZero, LegalValue, LegalElements, Legal}
+use Rattle.list.specs.Legal.{LegalValue, LegalElements, Legal}
 use Rattle.list.proofs.RowBound.{value-size, elements-size}
+use Rattle.list.proofs.Complete.{no-zero}
+use Rattle.list.proofs.Sound.{zero-none}
 use Rattle.list_encode.specs.Described.{natural, allowedValue, allowed, described, Words, Writable}
 use Rattle.list_encode.specs.Encode.{nested}
-use Rattle.list_encode.proofs.Rows.{clash, both}
+use Rattle.list_encode.proofs.Rows.{both}
 use Rattle.list_encode.proofs.Described.{described-complete, described-sound}
-
-no-zero : (bs : List ℕ) → NoZero bs → hasZero bs ≡ false
-unfolding hasZero
-no-zero [] h = refl
-no-zero (zero ∷ bs) h = absurd (h .0 refl)
-no-zero (suc b ∷ bs) h = no-zero bs (h .1)
-
-zero-none : (bs : List ℕ) → hasZero bs ≡ false → NoZero bs
-unfolding hasZero
-zero-none [] h = tt
-zero-none (zero ∷ bs) h = clash (sym h)
-zero-none (suc b ∷ bs) h = (λ e. omega arith, zero-none bs h)
 
 -- the tests of the definition, as facts
 value-allowed : (v : Value) → LegalValue v → length (valueStore v) < 2 ^ 31 → allowedValue v ≡ true

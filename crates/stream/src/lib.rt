@@ -5,11 +5,9 @@ ghost use Rattle.list_decode.specs.Decode.{outcome};
 ghost use Rattle.stream.specs.Step.{numbers, packedNumbers, counted, stepOf};
 ghost use Rattle.stream.specs.Judged.{judgedOf, Countable};
 use list::LIST_LIMIT;
+use list::ROW_BYTES;
 use list::ROW_NUMBERS;
 use list_decode::Decoded;
-
-// The room that rows must have as bytes, four to a number.
-const ROW_BYTES: usize = 4 * ROW_NUMBERS;
 
 // What a step answers. Offsets are counted from the front of the stream.
 pub enum Step {
