@@ -5,11 +5,12 @@ use mathlib.Core.Bool.{Bool, true, false, not, cond, _&&_}
 use mathlib.Core.List.{List}
 use mathlib.Core.Logic.{inl, inr, _≢_}
 use lib.Dec.{eqb}
+use lib.ListN.{length}
 use borrow.Author.Tests.{eq-eqb, ne-eqb, eqb-true, eqb-false}
 use Rattle.wire.proofs.Chains.{every-at}
 use Rattle.catalogue.specs.Lookup.{deviceOf}
-use Rattle.table.specs.Slots.{slotCount, socketCount, Shaped, emptySlot, slotAt, withSlot, holds, slotOf, refused, accepted}
-use Rattle.table.specs.Lawful.{Lawful, lawful, admitted}
+use Rattle.table.specs.Slots.{slotCount, Shaped, emptySlot, slotAt, withSlot, holds, slotOf, refused, accepted}
+use Rattle.table.specs.Lawful.{Lawful, lawful, admitted, ifAdmitted}
 use Rattle.table.specs.declared.Slot.{Slot}
 use Rattle.table.specs.declared.Table.{Table}
 use Rattle.table.specs.declared.Place.{Place}
@@ -21,16 +22,13 @@ use Rattle.table.proofs.Tests.{never, every-of}
 use Rattle.table.proofs.Places.{holds-parts, holds-not, slot-found, slot-none, free-found}
 use Rattle.table.proofs.Meaning.{lawful-means}
 use Rattle.table.proofs.Keeps.{Apart, fresh-lawful, empty-slot-lawful, fresh-shaped}
+use Rattle.table.proofs.Admission.{isAccepted, admitted-means}
 use Rattle.table.proofs.Outcome.{Changed, Outcome, outcome-others, outcome-refused, outcome-accepted, outcome-lawful, outcome-shaped}
-use Rattle.attach.specs.Attach.{deviceIn, yearIn, uidIn, uidElsewhere, uidFree, orFree, placeFor, settled, rowOf, acknowledged, emptied, ifAdmitted, detached}
+use Rattle.attach.specs.Attach.{deviceIn, yearIn, uidIn, uidElsewhere, uidFree, orFree, placeFor, placed, rowOf, ackBytes, assigned, acknowledged, emptied, detached}
 
-abbrev isAccepted : Answer → Bool
-isAccepted Accepted = true
-isAccepted (Refused n) = false
-
-settled-outcome : (t : Table) (s : Slot) (p : Place) → Outcome t p (λ i. s) (settled t s p)
-settled-outcome t s (At i) = inl (record { index = i; place = refl; result = refl })
-settled-outcome t s Nowhere = inr (record { number = 13; result = refl })
+placed-outcome : (t : Table) (s : Slot) (p : Place) → Outcome t p (λ i. s) (placed t s p)
+placed-outcome t s (At i) = inl (record { index = i; place = refl; result = refl })
+placed-outcome t s Nowhere = inr (record { number = 13; result = refl })
 
 emptied-outcome : (t : Table) (p : Place) → Outcome t p (λ i. emptySlot) (emptied t p)
 emptied-outcome t (At i) = inl (record { index = i; place = refl; result = refl })
@@ -54,37 +52,51 @@ uid-free :
 unfolding uidFree
 uid-free t socket uid h = every-of slotCount _ (λ j m. rw (h j m))
 
+-- the row of a device on another socket is not the one that an ACK is for
+pub not-its-place :
+    (t : Table) (socket j : ℕ) → slotAt t j .taken ≡ true → slotAt t j .socket ≢ socket → placeFor t socket ≢ At j
+not-its-place t socket j u ne = own (slotOf t socket) refl
+  where
+    own : (p : Place) → slotOf t socket ≡ p → orFree t p ≢ At j
+    own (At i) e q =
+        let k : i ≡ j = cc in
+        ne (holds-parts (slotAt t j) socket (rw k at (slot-found t socket i e .0)) .1)
+    own Nowhere e q = never (sym u ∙ free-found t j q .0)
+
 module _ (c : List ℕ) (t : Table) (socket : ℕ) (payload : List ℕ) where
-  -- LAW: an ACK replaces the row of the socket's own slot, or of the lowest empty one, or is refused and keeps the table
-  pub ack-outcome : Outcome t (placeFor t socket) (λ i. rowOf socket payload) (acknowledged c t socket payload)
-  unfolding acknowledged
-  ack-outcome = go (deviceOf c (deviceIn payload) .known) (uidFree t socket (uidIn payload))
+  assigned-outcome : Outcome t (placeFor t socket) (λ i. rowOf socket payload) (assigned c t socket payload)
+  unfolding assigned
+  assigned-outcome = go (deviceOf c (deviceIn payload) .known) (uidFree t socket (uidIn payload))
     where
       go :
           (a b : Bool) →
           Outcome t (placeFor t socket) (λ i. rowOf socket payload)
-          (cond a (cond b (settled t (rowOf socket payload) (placeFor t socket)) (refused t 14)) (refused t 12))
+          (cond a (cond b (placed t (rowOf socket payload) (placeFor t socket)) (refused t 14)) (refused t 12))
       go false b = inr (record { number = 12; result = refl })
       go true false = inr (record { number = 14; result = refl })
-      go true true = settled-outcome t (rowOf socket payload) (placeFor t socket)
+      go true true = placed-outcome t (rowOf socket payload) (placeFor t socket)
+
+  -- LAW: an ACK replaces the row of the socket's own slot, or of the lowest empty one, or is refused and keeps the table
+  pub ack-outcome : Outcome t (placeFor t socket) (λ i. rowOf socket payload) (acknowledged c t socket payload)
+  unfolding acknowledged
+  ack-outcome = go (admitted c t socket) (eqb (length payload) ackBytes)
+    where
+      go :
+          (a : Answer) (b : Bool) →
+          Outcome t (placeFor t socket) (λ i. rowOf socket payload)
+          (ifAdmitted a t (cond b (assigned c t socket payload) (refused t 8)))
+      go Accepted true = assigned-outcome
+      go Accepted false = inr (record { number = 8; result = refl })
+      go (Refused n) b = inr (record { number = n; result = refl })
 
   -- LAW: every slot but the one that the ACK is for is exactly as it was
   pub ack-others : (j : ℕ) → placeFor t socket ≢ At j → slotAt (acknowledged c t socket payload .table) j ≡ slotAt t j
   ack-others = outcome-others t (placeFor t socket) (λ i. rowOf socket payload) (acknowledged c t socket payload) ack-outcome
 
-  not-its-place : (j : ℕ) → slotAt t j .taken ≡ true → slotAt t j .socket ≢ socket → placeFor t socket ≢ At j
-  not-its-place j u ne = own (slotOf t socket) refl
-    where
-      own : (p : Place) → slotOf t socket ≡ p → orFree t p ≢ At j
-      own (At i) e q =
-          let k : i ≡ j = cc in
-          ne (holds-parts (slotAt t j) socket (rw k at (slot-found t socket i e .0)) .1)
-      own Nowhere e q = never (sym u ∙ free-found t j q .0)
-
   -- LAW: the row of a device on another socket is exactly as it was
   pub ack-other-devices :
       (j : ℕ) → slotAt t j .taken ≡ true → slotAt t j .socket ≢ socket → slotAt (acknowledged c t socket payload .table) j ≡ slotAt t j
-  ack-other-devices j u ne = ack-others j (not-its-place j u ne)
+  ack-other-devices j u ne = ack-others j (not-its-place t socket j u ne)
 
   -- LAW: a refused ACK keeps the table
   pub ack-refused : (n : ℕ) → acknowledged c t socket payload .answer ≡ Refused n → acknowledged c t socket payload .table ≡ t
@@ -96,19 +108,25 @@ module _ (c : List ℕ) (t : Table) (socket : ℕ) (payload : List ℕ) where
       Changed t (placeFor t socket) (λ i. rowOf socket payload) (acknowledged c t socket payload)
   ack-accepted = outcome-accepted t (placeFor t socket) (λ i. rowOf socket payload) (acknowledged c t socket payload) ack-outcome
 
+  -- what an accepted ACK was judged by
   judged :
       acknowledged c t socket payload .answer ≡ Accepted →
-      (deviceOf c (deviceIn payload) .known ≡ true) × (uidFree t socket (uidIn payload) ≡ true)
-  unfolding acknowledged
-  judged = go (deviceOf c (deviceIn payload) .known) (uidFree t socket (uidIn payload))
+      (admitted c t socket ≡ Accepted) × (deviceOf c (deviceIn payload) .known ≡ true) × (uidFree t socket (uidIn payload) ≡ true)
+  unfolding acknowledged assigned
+  judged =
+      go (admitted c t socket) (eqb (length payload) ackBytes) (deviceOf c (deviceIn payload) .known) (uidFree t socket (uidIn payload))
     where
       go :
-          (a b : Bool) →
-          cond a (cond b (settled t (rowOf socket payload) (placeFor t socket)) (refused t 14)) (refused t 12) .answer ≡ Accepted →
-          (a ≡ true) × (b ≡ true)
-      go false b e = never (sym (ap isAccepted e))
-      go true false e = never (sym (ap isAccepted e))
-      go true true e = (refl, refl)
+          (a : Answer) (n k f : Bool) →
+          ifAdmitted a t
+          (cond n (cond k (cond f (placed t (rowOf socket payload) (placeFor t socket)) (refused t 14)) (refused t 12)) (refused t 8)) .answer ≡
+          Accepted →
+          (a ≡ Accepted) × (k ≡ true) × (f ≡ true)
+      go (Refused number) n k f e = never (sym (ap isAccepted e))
+      go Accepted false k f e = never (sym (ap isAccepted e))
+      go Accepted true false f e = never (sym (ap isAccepted e))
+      go Accepted true true false e = never (sym (ap isAccepted e))
+      go Accepted true true true e = (refl, refl, refl)
 
   -- the row differs from a slot that does not hold the socket's device
   row-apart :
@@ -121,13 +139,14 @@ module _ (c : List ℕ) (t : Table) (socket : ℕ) (payload : List ℕ) where
       rw (v, ns) at (every-at slotCount (λ i. not (uidElsewhere socket (uidIn payload) (slotAt t i))) free j l) in
       (λ e. holds-not (slotAt t j) socket un v (sym e), λ e. never (sym (rw (eq-eqb (slotAt t j .uid) (uidIn payload) (sym e)) at q)))
 
-  -- LAW: an ACK from a socket below 8 keeps a lawful table lawful
-  pub ack-lawful : lawful c t ≡ true → socket < socketCount → lawful c (acknowledged c t socket payload .table) ≡ true
-  ack-lawful h l =
+  -- LAW: an ACK keeps a lawful table lawful
+  pub ack-lawful : lawful c t ≡ true → lawful c (acknowledged c t socket payload .table) ≡ true
+  ack-lawful h =
       outcome-lawful t (placeFor t socket) (λ i. rowOf socket payload) (acknowledged c t socket payload) ack-outcome c h
       (λ i x e.
       let g = judged (ap (λ (u : Update). u .answer) (x .result)) in
-      (fresh-lawful c socket (deviceIn payload) (yearIn payload) (uidIn payload) l (g .0), apart i (slotOf t socket) refl e (g .1)))
+      let l = admitted-means c t socket (g .0) .2 in
+      (fresh-lawful c socket (deviceIn payload) (yearIn payload) (uidIn payload) l (g .1), apart i (slotOf t socket) refl e (g .2)))
     where
       apart :
           (i : ℕ) (p : Place) → slotOf t socket ≡ p → orFree t p ≡ At i → uidFree t socket (uidIn payload) ≡ true →
@@ -171,15 +190,29 @@ module _ (c : List ℕ) (t : Table) (socket : ℕ) (payload : List ℕ) where
           (x .0)
           (eqb-true (slotAt t j .uid) (slotAt t i .uid) r))
 
-  -- LAW: a second ACK with the device's own UID is accepted in its own slot; its old row is no reason for 14
-  pub second-ack :
-      (i : ℕ) → lawful c t ≡ true → slotOf t socket ≡ At i → deviceOf c (deviceIn payload) .known ≡ true →
-      uidIn payload ≡ slotAt t i .uid → acknowledged c t socket payload ≡ accepted (withSlot t i (rowOf socket payload))
-  unfolding acknowledged
-  second-ack i h e k own = rw (k, free, e)
+  -- a call that 11, 9 and 10 are not given for, with a payload of an ACK's length and a type in the catalogue
+  module _
+      (a : admitted c t socket ≡ Accepted) (n : length payload ≡ ackBytes) (k : deviceOf c (deviceIn payload) .known ≡ true)
     where
-      free : uidFree t socket (uidIn payload) ≡ true
-      free = rw own (uid-free t socket (slotAt t i .uid) (own-uid i h e))
+      -- LAW: an ACK is accepted where its UID is on no other socket and there is a slot for it
+      pub ack-accepts :
+          (i : ℕ) → uidFree t socket (uidIn payload) ≡ true → placeFor t socket ≡ At i →
+          acknowledged c t socket payload ≡ accepted (withSlot t i (rowOf socket payload))
+      unfolding acknowledged assigned
+      ack-accepts i f e = rw (a, eq-eqb (length payload) ackBytes n, k, f, e)
+
+      -- LAW: a second ACK with a UID that is on no other socket is accepted in the socket's own slot, whether or not a slot is empty
+      pub other-uid-ack :
+          (i : ℕ) → uidFree t socket (uidIn payload) ≡ true → slotOf t socket ≡ At i →
+          acknowledged c t socket payload ≡ accepted (withSlot t i (rowOf socket payload))
+      other-uid-ack i f e = ack-accepts i f (ap (orFree t) e)
+
+      -- LAW: a second ACK with the device's own UID is accepted in its own slot; its old row is no reason for 14
+      pub second-ack :
+          (i : ℕ) → slotOf t socket ≡ At i → uidIn payload ≡ slotAt t i .uid →
+          acknowledged c t socket payload ≡ accepted (withSlot t i (rowOf socket payload))
+      second-ack i e own =
+          other-uid-ack i (rw own (uid-free t socket (slotAt t i .uid) (own-uid i (admitted-means c t socket a .1) e))) e
 
 module _ (c : List ℕ) (t : Table) (socket : ℕ) where
   -- LAW: leaving empties the socket's slot, or is refused and keeps the table

@@ -3,21 +3,23 @@ use Prim.Native.Nat.{ℕ}
 use mathlib.Core.Bool.{Bool, true, _&&_, not, cond}
 use mathlib.Core.List.{List}
 use lib.Dec.{eqb}
-use lib.ListN.{getD}
+use lib.ListN.{length, getD}
 use Rattle.wire.specs.Every.{every}
 use Rattle.wire.specs.Number.{numberAt}
 use Rattle.catalogue.specs.Lookup.{deviceOf}
 use Rattle.table.specs.Slots.{slotCount, freshSlot, emptySlot, slotAt, withSlot, slotOf, freeOf, refused, accepted}
-use Rattle.table.specs.Lawful.{admitted}
+use Rattle.table.specs.Lawful.{admitted, ifAdmitted}
 use Rattle.table.specs.declared.Slot.{Slot}
 use Rattle.table.specs.declared.Table.{Table}
 use Rattle.table.specs.declared.Place.{Place}
 use Rattle.table.specs.declared.Place.the-variants.{At, Nowhere}
-use Rattle.table.specs.declared.Answer.{Answer}
-use Rattle.table.specs.declared.Answer.the-variants.{Accepted, Refused}
 use Rattle.table.specs.declared.Update.{Update}
 
 -- ACK's payload, "10: device type, year, 8 bytes of UID"
+abbrev pub ackBytes : ℕ
+ackBytes = 10
+
+-- the first byte
 abbrev pub deviceIn : List ℕ → ℕ
 deviceIn payload = getD payload 0 0
 
@@ -47,30 +49,31 @@ abbrev pub placeFor : Table → ℕ → Place
 placeFor t socket = orFree t (slotOf t socket)
 
 -- 13, "socket unseated, all four seats taken"
-abbrev pub settled : Table → Slot → Place → Update
-settled t s (At i) = accepted (withSlot t i s)
-settled t s Nowhere = refused t 13
+abbrev pub placed : Table → Slot → Place → Update
+placed t s (At i) = accepted (withSlot t i s)
+placed t s Nowhere = refused t 13
 
 -- the row that an ACK makes, "with no values held"
 abbrev pub rowOf : ℕ → List ℕ → Slot
 rowOf socket payload = freshSlot true socket (deviceIn payload) (yearIn payload) (uidIn payload)
 
 -- "for ACK then 12, 14, 13"
+unfoldable pub assigned : List ℕ → Table → ℕ → List ℕ → Update
+assigned c t socket payload =
+    cond (deviceOf c (deviceIn payload) .known)
+    (cond (uidFree t socket (uidIn payload)) (placed t (rowOf socket payload) (placeFor t socket)) (refused t 14))
+    (refused t 12)
+
+-- "Handing in: 11, 9, 10, packet, 19; for ACK then ..": of the packet's refusals, 8 concerns the payload alone
 unfoldable pub acknowledged : List ℕ → Table → ℕ → List ℕ → Update
 acknowledged c t socket payload =
-    cond (deviceOf c (deviceIn payload) .known)
-    (cond (uidFree t socket (uidIn payload)) (settled t (rowOf socket payload) (placeFor t socket)) (refused t 14))
-    (refused t 12)
+    ifAdmitted (admitted c t socket) t
+    (cond (eqb (length payload) ackBytes) (assigned c t socket payload) (refused t 8))
 
 -- "Leaving empties the row"; 15, "socket has no guest"
 abbrev pub emptied : Table → Place → Update
 emptied t (At i) = accepted (withSlot t i emptySlot)
 emptied t Nowhere = refused t 15
-
--- 11, 9 and 10 come first
-abbrev pub ifAdmitted : Answer → Table → Update → Update
-ifAdmitted Accepted t u = u
-ifAdmitted (Refused n) t u = refused t n
 
 -- "Leaving: 11, 9, 10, 15"
 unfoldable pub detached : List ℕ → Table → ℕ → Update

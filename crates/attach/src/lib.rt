@@ -6,7 +6,10 @@ use table::Table;
 use table::Update;
 ghost use mathlib.Core.Path.{_≡_};
 ghost use Rattle.table.specs.Slots.{Within};
-ghost use Rattle.attach.specs.Attach.{uidElsewhere, uidFree, placeFor, settled, acknowledged, emptied, detached};
+ghost use Rattle.attach.specs.Attach.{uidElsewhere, uidFree, placeFor, placed, assigned, acknowledged, emptied, detached};
+
+// An ACK's payload: type, year and eight bytes of UID.
+const ACK_BYTES: usize = 10;
 
 // The slot's device has this UID, on another socket.
 fn is_elsewhere(s: Slot, socket: u8, uid: u64) -> bool
@@ -46,9 +49,9 @@ fn find_place(t: Table, socket: u8) -> Place
     }
 }
 
-fn settle(t: Table, s: Slot, p: Place) -> Update
+fn place_row(t: Table, s: Slot, p: Place) -> Update
     requires { ⌜ Within p ⌝ }
-    ensures { λ r. ⌜ r ≡ settled t s p ⌝ }
+    ensures { λ r. ⌜ r ≡ placed t s p ⌝ }
 {
     match p {
         Place::At(i) => {
@@ -63,9 +66,9 @@ fn settle(t: Table, s: Slot, p: Place) -> Update
     }
 }
 
-// An ACK's payload from a socket: 12, 14, 13, or the device has its slot, with no values held.
-pub fn acknowledge(c: &[u8], t: Table, socket: u8, payload: &[u8]) -> Update
-    ensures { λ r. ⌜ r ≡ acknowledged (now (c .entry)) t socket (now (payload .entry)) ⌝ }
+// A device gets its slot, with no values held: 12, 14, 13.
+fn assign(c: &[u8], t: Table, socket: u8, payload: &[u8]) -> Update
+    ensures { λ r. ⌜ r ≡ assigned (now (c .entry)) t socket (now (payload .entry)) ⌝ }
 {
     let device = wire::byte_at(payload, 0);
     let year = wire::byte_at(payload, 1);
@@ -75,11 +78,27 @@ pub fn acknowledge(c: &[u8], t: Table, socket: u8, payload: &[u8]) -> Update
         if is_uid_free(t, socket, uid) {
             let s = table::new_slot(socket, device, year, uid);
             let p = find_place(t, socket);
-            return settle(t, s, p);
+            return place_row(t, s, p);
         }
         return table::refuse(t, 14);
     }
     table::refuse(t, 12)
+}
+
+// An ACK's payload from a socket: 11, 9, 10, 8, 12, 14, 13, or the device has its slot.
+pub fn acknowledge(c: &[u8], t: Table, socket: u8, payload: &[u8]) -> Update
+    ensures { λ r. ⌜ r ≡ acknowledged (now (c .entry)) t socket (now (payload .entry)) ⌝ }
+{
+    let admission = table::admit(c, t, socket);
+    match admission {
+        Answer::Accepted => {
+            if payload.len() == ACK_BYTES {
+                return assign(c, t, socket, payload);
+            }
+            table::refuse(t, 8)
+        }
+        Answer::Refused(n) => table::refuse(t, n),
+    }
 }
 
 fn empty_place(t: Table, p: Place) -> Update

@@ -16,8 +16,8 @@ use Rattle.catalogue.proofs.Bench.{catalogueC}
 use Rattle.table.specs.Slots.{emptyTable, withSlot, holds, slotFrom, freeFrom}
 use Rattle.table.specs.Lawful.{valueLawful, heldLawful, nothingHeld, slotLawful, slotsDiffer, lawfulAt, lawful, admitted}
 use Rattle.table.specs.declared.Table.{Table}
-use Rattle.attach.specs.Attach.{uidElsewhere, uidFree, acknowledged}
-use Rattle.parameters.specs.Data.{width, offsetOf, allReadable, sizeOf, allFlags, judged, storedTo, appliedTo, applied}
+use Rattle.attach.specs.Attach.{uidElsewhere, uidFree, assigned, acknowledged}
+use Rattle.parameters.specs.Data.{width, offsetOf, allReadable, sizeOf, allFlags, judged, storedTo, appliedTo, appliedBy, applied}
 use Rattle.parameters.proofs.Bench.{rowC}
 use Rattle.hub.specs.Receive.{accepting, refusing, byType, receivedOf}
 
@@ -30,8 +30,8 @@ abbrev pub dataC : List ℕ
 dataC = 0x00 ∷ 0x0D ∷ 0x04 ∷ 0x04 ∷ 0x09 ∷ 0x05 ∷ 0x01 ∷ 0x01 ∷ 0x02 ∷ 0x07 ∷ 0x01 ∷ 0x01 ∷ 0x03 ∷ 0x01 ∷ 0x0E ∷ []
 
 -- the table after the ACK, and after both
-abbrev pub seatedC : Table
-seatedC = withSlot emptyTable 0 rowC
+abbrev pub attachedC : Table
+attachedC = withSlot emptyTable 0 rowC
 
 abbrev pub filledC : Table
 filledC =
@@ -47,13 +47,13 @@ filledC =
     })
 
 pub record BenchReceive : Type 0 where
-  pub ack : receivedOf catalogueC emptyTable 3 ackC ≡ accepting seatedC 16
-  pub values : receivedOf catalogueC seatedC 3 dataC ≡ accepting filledC 15
+  pub ack : receivedOf catalogueC emptyTable 3 ackC ≡ accepting attachedC 16
+  pub values : receivedOf catalogueC attachedC 3 dataC ≡ accepting filledC 15
   pub ping : receivedOf catalogueC filledC 3 (0x00 ∷ 0x04 ∷ 0x02 ∷ 0x01 ∷ 0x02 ∷ 0x01 ∷ []) ≡ refusing filledC 19
-  pub second-ack : receivedOf catalogueC filledC 3 ackC ≡ accepting seatedC 16
+  pub second-ack : receivedOf catalogueC filledC 3 ackC ≡ accepting attachedC 16
   pub same-uid : receivedOf catalogueC filledC 4 ackC ≡ refusing filledC 14
   pub nobody : receivedOf catalogueC filledC 4 dataC ≡ refusing filledC 15
 
 pub bench-receive : BenchReceive
-unfolding every hasZero plain lacking allows allowed xorFrom messageError frontError packetError refusal acceptance decoded typeLegal parametersBefore parameterLegal legal deviceFrom parameterOf holds slotFrom freeFrom valueLawful heldLawful nothingHeld slotLawful slotsDiffer lawfulAt lawful admitted uidElsewhere uidFree acknowledged width offsetOf allReadable sizeOf allFlags judged storedTo appliedTo applied byType receivedOf
+unfolding every hasZero plain lacking allows allowed xorFrom messageError frontError packetError refusal acceptance decoded typeLegal parametersBefore parameterLegal legal deviceFrom parameterOf holds slotFrom freeFrom valueLawful heldLawful nothingHeld slotLawful slotsDiffer lawfulAt lawful admitted uidElsewhere uidFree assigned acknowledged width offsetOf allReadable sizeOf allFlags judged storedTo appliedTo appliedBy applied byType receivedOf
 bench-receive = record { ack = refl; values = refl; ping = refl; second-ack = refl; same-uid = refl; nobody = refl }

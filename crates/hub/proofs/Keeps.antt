@@ -1,25 +1,23 @@
 -- What every packet keeps: a lawful table stays lawful, rows of other sockets stay, and a refusal leaves the table as it was.
-use Prim.Native.Nat.{ℕ, _<_}
+use Prim.Native.Nat.{ℕ}
 use mathlib.Core.Path.{_≡_, refl, sym, ap, _∙_}
 use mathlib.Core.Bool.{Bool, true, false, cond}
 use mathlib.Core.List.{List}
 use mathlib.Core.Logic.{_≢_}
-use lib.Dec.{eqb, ltb}
-use borrow.Author.Tests.{ltb-true}
+use lib.Dec.{eqb}
 use Rattle.packet.specs.TypeTable.{ACK, DEVICE_DATA, LOG}
 use Rattle.packet.specs.Packet.{Judgement, decoded}
 use Rattle.packet.specs.Packet as packet
-use Rattle.catalogue.specs.Format.{legal}
-use Rattle.table.specs.Slots.{socketCount, Shaped, slotAt}
+use Rattle.table.specs.Slots.{Shaped, slotAt}
 use Rattle.table.specs.Lawful.{lawful, admitted}
 use Rattle.table.specs.declared.Table.{Table}
+use Rattle.table.specs.declared.Place.the-variants.{At}
 use Rattle.table.specs.declared.Answer.{Answer}
 use Rattle.table.specs.declared.Answer.the-variants.{Accepted, Refused}
 use Rattle.table.specs.declared.Update.{Update}
 use Rattle.table.proofs.Tests.{never}
-use Rattle.table.proofs.Places.{holds-parts, slot-found}
-use Rattle.attach.specs.Attach.{acknowledged}
-use Rattle.attach.proofs.Laws.{ack-other-devices, ack-refused, ack-lawful, ack-shaped}
+use Rattle.attach.specs.Attach.{orFree, placeFor, acknowledged}
+use Rattle.attach.proofs.Laws.{not-its-place, ack-others, ack-refused, ack-lawful, ack-shaped}
 use Rattle.parameters.specs.Data.{applied}
 use Rattle.parameters.proofs.Laws.{data-others, data-refused, data-lawful, data-shaped}
 use Rattle.hub.specs.Receive.{Outcome, accepted, refused, Receiving, refusing, accepting, answeringBy, answering, payloadIn, byType, byJudgement, byReading, receivedIf, receivedOf}
@@ -28,57 +26,37 @@ abbrev isAccepted : Outcome → Bool
 isAccepted (accepted consumed) = true
 isAccepted (refused number) = false
 
-abbrev isAdmitted : Answer → Bool
-isAdmitted Accepted = true
-isAdmitted (Refused n) = false
-
--- what 11, 9 and 10 are given for is ruled out in a call that is admitted
-pub admitted-means :
-    (c : List ℕ) (t : Table) (socket : ℕ) → admitted c t socket ≡ Accepted →
-    (legal c ≡ true) × (lawful c t ≡ true) × (socket < socketCount)
-unfolding admitted
-admitted-means c t socket = go (legal c) (lawful c t) (ltb socket socketCount) refl
-  where
-    go :
-        (a b d : Bool) → ltb socket socketCount ≡ d →
-        cond a (cond b (cond d Accepted (Refused 10)) (Refused 9)) (Refused 11) ≡ Accepted →
-        (a ≡ true) × (b ≡ true) × (socket < socketCount)
-    go true true true e q = (refl, refl, ltb-true socket socketCount e)
-    go true true false e q = never (sym (ap isAdmitted q))
-    go true false d e q = never (sym (ap isAdmitted q))
-    go false b d e q = never (sym (ap isAdmitted q))
-
 module _
     (c : List ℕ) (t : Table) (socket : ℕ) (P : Receiving → Type 0) (no : (number : ℕ) → P (refusing t number))
     (none : (consumed : ℕ) → P (accepting t consumed))
-    (ack : socket < socketCount → (payload : List ℕ) (consumed : ℕ) → P (answering (acknowledged c t socket payload) consumed))
+    (ack : (payload : List ℕ) (consumed : ℕ) → P (answering (acknowledged c t socket payload) consumed))
     (values : (payload : List ℕ) (consumed : ℕ) → P (answering (applied c t socket payload) consumed))
   where
-    by-type : (kind : ℕ) (payload : List ℕ) (consumed : ℕ) → socket < socketCount → P (byType c t socket kind payload consumed)
+    by-type : (kind : ℕ) (payload : List ℕ) (consumed : ℕ) → P (byType c t socket kind payload consumed)
     unfolding byType
-    by-type kind payload consumed l = go (eqb kind ACK) (eqb kind DEVICE_DATA) (eqb kind LOG)
+    by-type kind payload consumed = go (eqb kind ACK) (eqb kind DEVICE_DATA) (eqb kind LOG)
       where
         go :
             (a b d : Bool) →
             P (cond a (answering (acknowledged c t socket payload) consumed)
             (cond b (answering (applied c t socket payload) consumed) (cond d (accepting t consumed) (refusing t 19))))
-        go true b d = ack l payload consumed
+        go true b d = ack payload consumed
         go false true d = values payload consumed
         go false false true = none consumed
         go false false false = no 19
 
-    by-judgement : (j : Judgement) (message : List ℕ) → socket < socketCount → P (byJudgement c t socket j message)
-    by-judgement (packet.accepted kind n consumed) message l = by-type kind (payloadIn message n) consumed l
-    by-judgement (packet.refused number) message l = no number
+    by-judgement : (j : Judgement) (message : List ℕ) → P (byJudgement c t socket j message)
+    by-judgement (packet.accepted kind n consumed) message = by-type kind (payloadIn message n) consumed
+    by-judgement (packet.refused number) message = no number
 
     -- what holds of a refusal, of a packet that changes nothing, of an ACK and of DEVICE_DATA holds of all that is received
     pub by-cases : (s : List ℕ) → P (receivedOf c t socket s)
     unfolding receivedOf
-    by-cases s = go (admitted c t socket) refl
+    by-cases s = go (admitted c t socket)
       where
-        go : (a : Answer) → admitted c t socket ≡ a → P (receivedIf a t (byReading c t socket (decoded s)))
-        go Accepted e = by-judgement (decoded s .judgement) (decoded s .message) (admitted-means c t socket e .2)
-        go (Refused n) e = no n
+        go : (a : Answer) → P (receivedIf a t (byReading c t socket (decoded s)))
+        go Accepted = by-judgement (decoded s .judgement) (decoded s .message)
+        go (Refused n) = no n
 
 answering-table : (u : Update) (consumed : ℕ) → answering u consumed .table ≡ u .table
 answering-table u consumed = go (u .answer)
@@ -112,7 +90,7 @@ module _ (c : List ℕ) (t : Table) (socket : ℕ) where
       (λ r. r .outcome ≡ refused number → r .table ≡ t)
       (λ k e. refl)
       (λ k e. refl)
-      (λ l payload n e.
+      (λ payload n e.
       answering-table (acknowledged c t socket payload) n ∙
       ack-refused c t socket payload number (answering-refused (acknowledged c t socket payload) n number e))
       (λ payload n e.
@@ -120,21 +98,26 @@ module _ (c : List ℕ) (t : Table) (socket : ℕ) where
       data-refused c t socket payload number (answering-refused (applied c t socket payload) n number e))
       s
 
-  -- LAW: the row of a device on another socket is exactly as it was
-  pub others-kept :
-      (s : List ℕ) (j : ℕ) → slotAt t j .taken ≡ true → slotAt t j .socket ≢ socket → slotAt (receivedOf c t socket s .table) j ≡ slotAt t j
-  others-kept s j u ne =
+  -- LAW: every slot but the one that an ACK from the socket is for is exactly as it was
+  pub slots-kept :
+      (s : List ℕ) (j : ℕ) → placeFor t socket ≢ At j → slotAt (receivedOf c t socket s .table) j ≡ slotAt t j
+  slots-kept s j ne =
       by-cases c t socket
       (λ r. slotAt (r .table) j ≡ slotAt t j)
       (λ k. refl)
       (λ k. refl)
-      (λ l payload n.
+      (λ payload n.
       ap (λ (x : Table). slotAt x j) (answering-table (acknowledged c t socket payload) n) ∙
-      ack-other-devices c t socket payload j u ne)
+      ack-others c t socket payload j ne)
       (λ payload n.
       ap (λ (x : Table). slotAt x j) (answering-table (applied c t socket payload) n) ∙
-      data-others c t socket payload j (λ e. ne (holds-parts (slotAt t j) socket (slot-found t socket j e .0) .1)))
+      data-others c t socket payload j (λ e. ne (ap (orFree t) e)))
       s
+
+  -- LAW: the row of a device on another socket is exactly as it was
+  pub others-kept :
+      (s : List ℕ) (j : ℕ) → slotAt t j .taken ≡ true → slotAt t j .socket ≢ socket → slotAt (receivedOf c t socket s .table) j ≡ slotAt t j
+  others-kept s j u ne = slots-kept s j (not-its-place t socket j u ne)
 
   -- the table keeps the shape that its type says
   pub received-shaped : (s : List ℕ) → Shaped t → Shaped (receivedOf c t socket s .table)
@@ -143,7 +126,7 @@ module _ (c : List ℕ) (t : Table) (socket : ℕ) where
       (λ r. Shaped (r .table))
       (λ k. z)
       (λ k. z)
-      (λ l payload n. rw (answering-table (acknowledged c t socket payload) n) (ack-shaped c t socket payload z))
+      (λ payload n. rw (answering-table (acknowledged c t socket payload) n) (ack-shaped c t socket payload z))
       (λ payload n. rw (answering-table (applied c t socket payload) n) (data-shaped c t socket payload z))
       s
 
@@ -154,6 +137,6 @@ module _ (c : List ℕ) (t : Table) (socket : ℕ) where
       (λ r. lawful c (r .table) ≡ true)
       (λ k. h)
       (λ k. h)
-      (λ l payload n. ap (lawful c) (answering-table (acknowledged c t socket payload) n) ∙ ack-lawful c t socket payload h l)
+      (λ payload n. ap (lawful c) (answering-table (acknowledged c t socket payload) n) ∙ ack-lawful c t socket payload h)
       (λ payload n. ap (lawful c) (answering-table (applied c t socket payload) n) ∙ data-lawful c t socket payload z h)
       s

@@ -5,10 +5,12 @@ use mathlib.Core.Bool.{Bool, true, false, cond}
 use mathlib.Core.List.{List, _∷_, _++_, append-assoc}
 use mathlib.Core.Logic.{_≢_}
 use native.Mathlib.Omega.{arith}
-use lib.Dec.{eqb}
+use lib.Dec.{eqb, leb}
 use lib.ListN.{length, take}
 use lib.Seq.{take-at}
-use Rattle.packet.specs.TypeTable.{PING, ACK, DEVICE_WRITE, DEVICE_DATA, LOG}
+use borrow.Author.Tests.{leb-true}
+use Rattle.wire.proofs.Chains.{and-left, and-right}
+use Rattle.packet.specs.TypeTable.{PING, ACK, DEVICE_WRITE, DEVICE_DATA, LOG, allows, allowed}
 use Rattle.packet.specs.Message.{messageOf}
 use Rattle.packet.specs.Packet.{StartsWith, Judgement, copyOf, lengthByte, packetError, refusal, decoded}
 use Rattle.packet.specs.Packet as packet
@@ -27,13 +29,13 @@ use Rattle.table.specs.declared.Update.{Update}
 use Rattle.table.proofs.Tests.{never}
 use Rattle.table.proofs.Places.{slot-found, same-slot}
 use Rattle.table.proofs.Outcome.{Changed}
-use Rattle.attach.specs.Attach.{deviceIn, uidIn, placeFor, rowOf, acknowledged}
-use Rattle.attach.proofs.Laws.{ack-accepted, second-ack}
+use Rattle.attach.specs.Attach.{ackBytes, deviceIn, uidIn, uidFree, placeFor, rowOf, acknowledged}
+use Rattle.attach.proofs.Laws.{ack-accepted, ack-accepts, second-ack}
 use Rattle.parameters.specs.Data.{mapOf, named, valueIn, stored, applied}
 use Rattle.parameters.proofs.Values.{SameDevice, data-same-device, data-present, data-bits}
 use Rattle.parameters.proofs.Laws.{data-accepted}
 use Rattle.hub.specs.Receive.{Outcome, accepted, refused, Receiving, refusing, accepting, answering, payloadIn, byType, byJudgement, byReading, receivedIf, receivedOf}
-use Rattle.hub.proofs.Keeps.{admitted-means, answering-accepted}
+use Rattle.hub.proofs.Keeps.{answering-accepted}
 
 abbrev isAccepted : Outcome → Bool
 isAccepted (accepted consumed) = true
@@ -117,6 +119,11 @@ pub not-admitted :
 unfolding receivedOf
 not-admitted c t socket s number e = rw e
 
+-- an ACK's payload has its ten bytes
+ack-size : {n : ℕ} → allowed ACK n ≡ true → n ≡ ackBytes
+unfolding allowed allows
+ack-size {n} h = omega (arith, leb-true 10 n (and-left (leb 10 n) (leb n 10) h), leb-true n 10 (and-right (leb 10 n) (leb n 10) h))
+
 -- a legal catalogue, a lawful table and a socket below 8
 module _ (c : List ℕ) (t : Table) (socket : ℕ) (s : List ℕ) (a : admitted c t socket ≡ Accepted) where
   -- LAW: the packet reader's error is the answer
@@ -167,13 +174,22 @@ module _ (c : List ℕ) (t : Table) (socket : ℕ) (s : List ℕ) (a : admitted 
         let k = answering-accepted u consumed n (sym (ap (λ (r : Receiving). r .outcome) e) ∙ h) .0 in
         rw e (replaced t (placeFor t socket) (λ i. rowOf socket payload) u consumed (ack-accepted c t socket payload k))
 
+    -- LAW: an ACK is accepted where its type is in the catalogue, its UID on no other socket, and there is a slot for it
+    pub ack-seats :
+        (i : ℕ) → StartsWith s ACK payload consumed → deviceOf c (deviceIn payload) .known ≡ true →
+        uidFree t socket (uidIn payload) ≡ true → placeFor t socket ≡ At i →
+        receivedOf c t socket s ≡ accepting (withSlot t i (rowOf socket payload)) consumed
+    ack-seats i w k f e =
+        ack-received w ∙
+        ap (λ (u : Update). answering u consumed) (ack-accepts c t socket payload a (ack-size (w .packet .allows)) k i f e)
+
     -- LAW: a second ACK is accepted in the socket's own slot; the old row is no reason for 14
     pub second-ack-received :
         (i : ℕ) → StartsWith s ACK payload consumed → slotOf t socket ≡ At i → deviceOf c (deviceIn payload) .known ≡ true →
         uidIn payload ≡ slotAt t i .uid → receivedOf c t socket s ≡ accepting (withSlot t i (rowOf socket payload)) consumed
     second-ack-received i w e k own =
         ack-received w ∙
-        ap (λ (u : Update). answering u consumed) (second-ack c t socket payload i (admitted-means c t socket a .1) e k own)
+        ap (λ (u : Update). answering u consumed) (second-ack c t socket payload a (ack-size (w .packet .allows)) k i e own)
 
     -- LAW: accepted DEVICE_DATA replaces the row of the socket's own slot
     pub data-row :

@@ -33,21 +33,28 @@ abbrev pub outcomeOf : Receipt → Outcome
 outcomeOf (Accepted consumed) = accepted consumed
 outcomeOf (Refused number) = refused number
 
+-- the same beside the table
 abbrev pub meaning : Received → Receiving
 meaning r = record { outcome = outcomeOf (r .answer); table = r .table }
 
+-- an outcome beside a table
+abbrev pub keeping : Table → Outcome → Receiving
+keeping t outcome = record { outcome = outcome; table = t }
+
 -- "Table and lent areas keep their old contents"
 abbrev pub refusing : Table → ℕ → Receiving
-refusing t number = record { outcome = refused number; table = t }
+refusing t number = keeping t (refused number)
 
+-- accepted, beside the table afterwards
 abbrev pub accepting : Table → ℕ → Receiving
-accepting t consumed = record { outcome = accepted consumed; table = t }
+accepting t consumed = keeping t (accepted consumed)
 
 -- an ACK or DEVICE_DATA that changes the table answers the bytes of its packet
 abbrev pub answeringBy : Answer → Table → ℕ → Receiving
 answeringBy answer.Accepted t consumed = accepting t consumed
 answeringBy (answer.Refused number) t consumed = refusing t number
 
+-- the same of an update
 abbrev pub answering : Update → ℕ → Receiving
 answering u consumed = answeringBy (u .answer) (u .table) consumed
 
@@ -68,13 +75,15 @@ abbrev pub byJudgement : List ℕ → Table → ℕ → Judgement → List ℕ �
 byJudgement c t socket (packet.accepted kind n consumed) message = byType c t socket kind (payloadIn message n) consumed
 byJudgement c t socket (packet.refused number) message = refusing t number
 
+-- what a reading of the packet leads to
 abbrev pub byReading : List ℕ → Table → ℕ → Reading → Receiving
 byReading c t socket r = byJudgement c t socket (r .judgement) (r .message)
 
--- "Handing in: 11, 9, 10, packet, 19; for ACK then 12, 14, 13; for data 15, 16, 17, 18"
+-- 11, 9 and 10 come first
 abbrev pub receivedIf : Answer → Table → Receiving → Receiving
 receivedIf answer.Accepted t r = r
 receivedIf (answer.Refused number) t r = refusing t number
 
+-- "Handing in: 11, 9, 10, packet, 19; for ACK then 12, 14, 13; for data 15, 16, 17, 18"
 unfoldable pub receivedOf : List ℕ → Table → ℕ → List ℕ → Receiving
 receivedOf c t socket s = receivedIf (admitted c t socket) t (byReading c t socket (decoded s))

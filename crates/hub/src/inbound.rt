@@ -8,8 +8,8 @@ use table::Answer;
 use table::Table;
 use table::Update;
 ghost use mathlib.Core.Path.{_≡_};
-ghost use Rattle.packet.specs.Packet.{decoded};
-ghost use Rattle.hub.specs.Receive.{meaning, refusing, accepting, answering, byType, byReading, receivedOf};
+ghost use Rattle.table.specs.Lawful.{admitted};
+ghost use Rattle.hub.specs.Receive.{outcomeOf, meaning, keeping, refusing, accepting, answering, byType, receivedIf, receivedOf};
 
 // An error, the table as it was.
 fn refuse(t: Table, number: u8) -> Received
@@ -43,21 +43,33 @@ fn answer_update(u: Update, consumed: usize) -> Received
     }
 }
 
-// A message by its type. PING and DEVICE_WRITE are for devices, not for the hub.
+// An answer that leaves the table as it was, unless it is 11, 9 or 10.
+fn answer_only(c: &[u8], t: Table, socket: u8, answer: Receipt) -> Received
+    ensures { λ r. ⌜ meaning r ≡ receivedIf (admitted (now (c .entry)) t socket) t (keeping t (outcomeOf answer)) ⌝ }
+{
+    let a = table::admit(c, t, socket);
+    match a {
+        Answer::Accepted => Received { answer, table: t },
+        Answer::Refused(number) => refuse(t, number),
+    }
+}
+
+// A message by its type; each arm judges 11, 9 and 10 once. PING and DEVICE_WRITE are for devices, not for the hub.
 fn dispatch(c: &[u8], t: Table, socket: u8, kind: u8, payload: &[u8], consumed: usize) -> Received
-    ensures { λ r. ⌜ meaning r ≡ byType (now (c .entry)) t socket kind (now (payload .entry)) consumed ⌝ }
+    ensures { λ r. ⌜ meaning r ≡ receivedIf (admitted (now (c .entry)) t socket) t (byType (now (c .entry)) t socket kind (now (payload .entry)) consumed) ⌝ }
 {
     match kind {
         ACK => answer_update(attach::acknowledge(c, t, socket, payload), consumed),
         DEVICE_DATA => answer_update(parameters::apply_data(c, t, socket, payload), consumed),
-        LOG => accept(t, consumed),
-        _ => refuse(t, 19),
+        LOG => answer_only(c, t, socket, Receipt::Accepted(consumed)),
+        _ => answer_only(c, t, socket, Receipt::Refused(19)),
     }
 }
 
-// The packet at the front of the bytes, or the packet reader's error.
-fn take_packet(c: &[u8], t: Table, socket: u8, bytes: &[u8]) -> Received
-    ensures { λ r. ⌜ meaning r ≡ byReading (now (c .entry)) t socket (decoded (now (bytes .entry))) ⌝ }
+// Receives the packet at the front of the bytes from a socket: 11, 9, 10, the packet's error, 19, then what its type asks.
+// Reading a packet touches nothing, so it comes before 11, 9 and 10 in the code; its error comes behind them in the answer.
+pub fn receive(catalogue: &[u8], table: Table, socket: u8, bytes: &[u8]) -> Received
+    ensures { λ r. ⌜ meaning r ≡ receivedOf (now (catalogue .entry)) table socket (now (bytes .entry)) ⌝ }
 {
     let d = packet::decode(bytes);
     let a = d.answer;
@@ -69,21 +81,17 @@ fn take_packet(c: &[u8], t: Table, socket: u8, bytes: &[u8]) -> Received
     } = a
     else {
         let packet::Answer::Refused(number) = a else {
-            return refuse(t, 0);
+            // Not reached: an answer that is no packet is a refusal.
+            return refuse(table, 0);
         };
-        return refuse(t, number);
+        return answer_only(catalogue, table, socket, Receipt::Refused(number));
     };
-    dispatch(c, t, socket, kind, &message[2..2 + payload_len], consumed)
-}
-
-// Receives the packet at the front of the bytes from a socket: 11, 9, 10, the packet's error, 19, then what its type asks.
-// Nothing of the table is changed before the last error is ruled out.
-pub fn receive(catalogue: &[u8], table: Table, socket: u8, bytes: &[u8]) -> Received
-    ensures { λ r. ⌜ meaning r ≡ receivedOf (now (catalogue .entry)) table socket (now (bytes .entry)) ⌝ }
-{
-    let a = table::admit(catalogue, table, socket);
-    match a {
-        Answer::Accepted => take_packet(catalogue, table, socket, bytes),
-        Answer::Refused(number) => refuse(table, number),
-    }
+    dispatch(
+        catalogue,
+        table,
+        socket,
+        kind,
+        &message[2..2 + payload_len],
+        consumed,
+    )
 }

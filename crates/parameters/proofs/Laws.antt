@@ -10,8 +10,8 @@ use borrow.Author.Tests.{eq-eqb, leb-true}
 use Rattle.wire.proofs.Chains.{and-true, every-at}
 use Rattle.catalogue.specs.Format.{kindBool}
 use Rattle.catalogue.specs.Lookup.{parameterOf}
-use Rattle.table.specs.Slots.{slotCount, paramCount, ShapedSlot, Shaped, slotAt, slotOf}
-use Rattle.table.specs.Lawful.{presentAt, bitsAt, LawfulSlot, Lawful, lawful}
+use Rattle.table.specs.Slots.{slotCount, paramCount, ShapedSlot, Shaped, slotAt, slotOf, refused}
+use Rattle.table.specs.Lawful.{presentAt, bitsAt, LawfulSlot, Lawful, lawful, admitted, ifAdmitted}
 use Rattle.table.specs.declared.Slot.{Slot}
 use Rattle.table.specs.declared.Table.{Table}
 use Rattle.table.specs.declared.Place.{Place}
@@ -23,13 +23,10 @@ use Rattle.table.proofs.Tests.{never, imply}
 use Rattle.table.proofs.Places.{holds-parts, slot-found}
 use Rattle.table.proofs.Meaning.{lawful-means}
 use Rattle.table.proofs.Keeps.{Apart}
+use Rattle.table.proofs.Admission.{isAccepted}
 use Rattle.table.proofs.Outcome.{Changed, Outcome, outcome-others, outcome-refused, outcome-accepted, outcome-lawful, outcome-shaped}
-use Rattle.parameters.specs.Data.{mapOf, named, valueIn, readableIf, allReadable, sizeOf, flagIf, allFlags, judged, stored, appliedIf, appliedTo, appliedAt, applied}
+use Rattle.parameters.specs.Data.{mapOf, named, valueIn, readableIf, allReadable, sizeOf, flagIf, allFlags, judged, stored, appliedIf, appliedTo, appliedAt, dataSized, appliedBy, applied}
 use Rattle.parameters.proofs.Values.{SameDevice, data-same-device, data-present, data-bits, data-shaped-slot}
-
-abbrev isAccepted : Answer → Bool
-isAccepted Accepted = true
-isAccepted (Refused n) = false
 
 -- what an accepted payload was judged by
 judged-parts :
@@ -125,8 +122,15 @@ module _ (c : List ℕ) (t : Table) (socket : ℕ) (payload : List ℕ) where
 
   -- LAW: a data packet replaces the values of the socket's slot, or is refused and keeps the table
   pub data-outcome : Outcome t (slotOf t socket) (λ i. stored c payload (slotAt t i)) (applied c t socket payload)
-  unfolding applied
-  data-outcome = at-outcome (slotOf t socket)
+  unfolding applied appliedBy
+  data-outcome = go (admitted c t socket) (dataSized (length payload))
+    where
+      go :
+          (a : Answer) (b : Bool) →
+          Outcome t (slotOf t socket) rowAt (ifAdmitted a t (cond b (appliedAt c t payload (slotOf t socket)) (refused t 8)))
+      go Accepted true = at-outcome (slotOf t socket)
+      go Accepted false = inr (record { number = 8; result = refl })
+      go (Refused n) b = inr (record { number = n; result = refl })
 
   -- LAW: every slot but the socket's is exactly as it was
   pub data-others : (j : ℕ) → slotOf t socket ≢ At j → slotAt (applied c t socket payload .table) j ≡ slotAt t j
@@ -149,12 +153,20 @@ module _ (c : List ℕ) (t : Table) (socket : ℕ) (payload : List ℕ) where
 
   was-judged :
       (i : ℕ) → slotOf t socket ≡ At i → applied c t socket payload .answer ≡ Accepted → judged c (slotAt t i .device) payload ≡ Accepted
-  unfolding applied appliedTo
-  was-judged i e a = go (judged c (slotAt t i .device) payload) (ap (λ (p : Place). appliedAt c t payload p .answer) (sym e) ∙ a)
+  unfolding applied appliedBy appliedTo
+  was-judged i e = go (admitted c t socket) (dataSized (length payload))
     where
-      go : (b : Answer) → appliedIf b t i (rowAt i) .answer ≡ Accepted → b ≡ Accepted
-      go Accepted q = refl
-      go (Refused n) q = q
+      at-slot : (b : Answer) → appliedIf b t i (rowAt i) .answer ≡ Accepted → b ≡ Accepted
+      at-slot Accepted q = refl
+      at-slot (Refused n) q = q
+
+      go :
+          (a : Answer) (b : Bool) → ifAdmitted a t (cond b (appliedAt c t payload (slotOf t socket)) (refused t 8)) .answer ≡ Accepted →
+          judged c (slotAt t i .device) payload ≡ Accepted
+      go Accepted true q =
+          at-slot (judged c (slotAt t i .device) payload) (ap (λ (p : Place). appliedAt c t payload p .answer) (sym e) ∙ q)
+      go Accepted false q = never (sym (ap isAccepted q))
+      go (Refused n) b q = never (sym (ap isAccepted q))
 
   -- LAW: a data packet keeps a lawful table lawful
   pub data-lawful : Shaped t → lawful c t ≡ true → lawful c (applied c t socket payload .table) ≡ true

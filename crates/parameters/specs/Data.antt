@@ -9,6 +9,7 @@ use Rattle.wire.specs.Number.{numberAt}
 use Rattle.catalogue.specs.Format.{kindInt, kindFloat, kindBool}
 use Rattle.catalogue.specs.Lookup.{parameterOf}
 use Rattle.table.specs.Slots.{paramCount, slotAt, withSlot, slotOf, refused, accepted}
+use Rattle.table.specs.Lawful.{admitted, ifAdmitted}
 use Rattle.table.specs.declared.Slot.{Slot}
 use Rattle.table.specs.declared.Table.{Table}
 use Rattle.table.specs.declared.Place.{Place}
@@ -20,6 +21,14 @@ use Rattle.table.specs.declared.Update.{Update}
 -- "a 32-bit map, low byte first"
 abbrev pub mapBytes : ℕ
 mapBytes = 4
+
+-- DEVICE_DATA's payload length, "4 to 132": the least is a map alone
+abbrev pub dataMost : ℕ
+dataMost = 132
+
+-- a payload length that DEVICE_DATA has
+abbrev pub dataSized : ℕ → Bool
+dataSized n = leb mapBytes n && leb n dataMost
 
 -- the map stands in front
 abbrev pub mapOf : List ℕ → ℕ
@@ -120,6 +129,10 @@ abbrev pub appliedAt : List ℕ → Table → List ℕ → Place → Update
 appliedAt c t payload (At i) = appliedTo c t payload i
 appliedAt c t payload Nowhere = refused t 15
 
--- "for data 15, 16, 17, 18"
+-- of the packet's refusals, 8 concerns the payload alone; "for data 15, 16, 17, 18"
+unfoldable pub appliedBy : List ℕ → Table → ℕ → List ℕ → Update
+appliedBy c t socket payload = cond (dataSized (length payload)) (appliedAt c t payload (slotOf t socket)) (refused t 8)
+
+-- "Handing in: 11, 9, 10, packet, 19; .. for data .."
 unfoldable pub applied : List ℕ → Table → ℕ → List ℕ → Update
-applied c t socket payload = appliedAt c t payload (slotOf t socket)
+applied c t socket payload = ifAdmitted (admitted c t socket) t (appliedBy c t socket payload)

@@ -11,10 +11,13 @@ ghost use lib.Dec.{eqb};
 ghost use Rattle.wire.specs.Number.{numberAt};
 ghost use Rattle.catalogue.specs.Lookup.{parameterOf};
 ghost use Rattle.table.specs.Slots.{slotCount, paramCount};
-ghost use Rattle.parameters.specs.Data.{width, spanIf, sizeOf, readableIf, allReadable, flagIf, allFlags, judged, withValue, storeIf, storedTo, appliedTo, applied};
+ghost use Rattle.parameters.specs.Data.{width, spanIf, sizeOf, readableIf, allReadable, flagIf, allFlags, judged, withValue, storeIf, storedTo, appliedTo, dataSized, appliedBy, applied};
 
 // The bytes before the first value: the map's.
 const MAP_BYTES: usize = 4;
+
+// The longest payload: the map and 32 values of 4 bytes.
+const DATA_MOST: usize = 132;
 
 // How many bytes a value of this kind has in a packet.
 fn width_of(kind: u8) -> usize
@@ -203,13 +206,32 @@ fn apply_at(c: &[u8], t: Table, i: usize, payload: &[u8]) -> Update
     }
 }
 
-// A DEVICE_DATA payload from a socket: 15, 16, 17, 18, or the values that its map names are replaced.
+fn is_data_size(n: usize) -> bool
+    ensures { λ r. ⌜ r ≡ dataSized n ⌝ }
+{
+    MAP_BYTES <= n && n <= DATA_MOST
+}
+
+fn apply_payload(c: &[u8], t: Table, socket: u8, payload: &[u8]) -> Update
+    ensures { λ r. ⌜ r ≡ appliedBy (now (c .entry)) t socket (now (payload .entry)) ⌝ }
+{
+    if is_data_size(payload.len()) {
+        let p = table::find_slot(t, socket);
+        match p {
+            Place::At(i) => return apply_at(c, t, i, payload),
+            Place::Nowhere => return table::refuse(t, 15),
+        }
+    }
+    table::refuse(t, 8)
+}
+
+// A DEVICE_DATA payload from a socket: 11, 9, 10, 8, 15, 16, 17, 18, or the values that its map names are replaced.
 pub fn apply_data(c: &[u8], t: Table, socket: u8, payload: &[u8]) -> Update
     ensures { λ r. ⌜ r ≡ applied (now (c .entry)) t socket (now (payload .entry)) ⌝ }
 {
-    let p = table::find_slot(t, socket);
-    match p {
-        Place::At(i) => apply_at(c, t, i, payload),
-        Place::Nowhere => table::refuse(t, 15),
+    let a = table::admit(c, t, socket);
+    match a {
+        Answer::Accepted => apply_payload(c, t, socket, payload),
+        Answer::Refused(number) => table::refuse(t, number),
     }
 }

@@ -3,4 +3,5 @@ pub mod Tests
 pub mod Places
 pub mod Meaning
 pub mod Keeps
+pub mod Admission
 pub mod Outcome

@@ -1,7 +1,7 @@
 -- A call for one socket replaces the row of one slot, or is refused and keeps the table. What follows from that alone.
 use Prim.Native.Nat.{ℕ, _<_}
 use mathlib.Core.Path.{_≡_, sym, ap, _∙_}
-use mathlib.Core.Bool.{Bool, true, false}
+use mathlib.Core.Bool.{true}
 use mathlib.Core.List.{List}
 use mathlib.Core.Logic.{_⊎_, ⊎-elim, _≢_}
 use lib.ListN.{length-set}
@@ -11,13 +11,13 @@ use Rattle.table.specs.declared.Slot.{Slot}
 use Rattle.table.specs.declared.Table.{Table}
 use Rattle.table.specs.declared.Place.{Place}
 use Rattle.table.specs.declared.Place.the-variants.{At}
-use Rattle.table.specs.declared.Answer.{Answer}
 use Rattle.table.specs.declared.Answer.the-variants.{Accepted, Refused}
 use Rattle.table.specs.declared.Update.{Update}
 use Rattle.table.proofs.Tests.{never}
 use Rattle.table.proofs.Places.{set-cases, other-slot}
 use Rattle.table.proofs.Meaning.{lawful-means, means-lawful}
 use Rattle.table.proofs.Keeps.{Apart, with-slot-lawful}
+use Rattle.table.proofs.Admission.{isAccepted}
 
 -- accepted: the slot at the place has the new row
 pub record Changed (t : Table) (p : Place) (row : ℕ → Slot) (u : Update) : Type 0 where
@@ -32,10 +32,6 @@ pub record Kept (t : Table) (u : Update) : Type 0 where
 
 abbrev pub Outcome : Table → Place → (ℕ → Slot) → Update → Type 0
 Outcome t p row u = Changed t p row u ⊎ Kept t u
-
-abbrev isAccepted : Answer → Bool
-isAccepted Accepted = true
-isAccepted (Refused n) = false
 
 abbrev tableOf : Update → Table
 tableOf u = u .table

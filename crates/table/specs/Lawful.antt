@@ -10,11 +10,12 @@ use Rattle.wire.specs.Every.{every}
 use Rattle.catalogue.specs.Format.{kindBool, legal}
 use Rattle.catalogue.specs.Lookup.{deviceOf, parameterOf}
 use Rattle.catalogue.specs.declared.Parameter.{Parameter}
-use Rattle.table.specs.Slots.{slotCount, socketCount, paramCount, slotAt}
+use Rattle.table.specs.Slots.{slotCount, socketCount, paramCount, slotAt, refused}
 use Rattle.table.specs.declared.Slot.{Slot}
 use Rattle.table.specs.declared.Table.{Table}
 use Rattle.table.specs.declared.Answer.{Answer}
 use Rattle.table.specs.declared.Answer.the-variants.{Accepted, Refused}
+use Rattle.table.specs.declared.Update.{Update}
 
 -- "for each of 32 parameters, absent or a value"
 abbrev pub presentAt : Slot → ℕ → Bool
@@ -84,3 +85,8 @@ lawful c t = every slotCount (lawfulAt c t)
 -- "Handing in: 11, 9, 10", and the same before leaving and reading
 unfoldable pub admitted : List ℕ → Table → ℕ → Answer
 admitted c t socket = cond (legal c) (cond (lawful c t) (cond (ltb socket socketCount) Accepted (Refused 10)) (Refused 9)) (Refused 11)
+
+-- what a call does, where 11, 9 and 10 are not given
+abbrev pub ifAdmitted : Answer → Table → Update → Update
+ifAdmitted Accepted t u = u
+ifAdmitted (Refused n) t u = refused t n

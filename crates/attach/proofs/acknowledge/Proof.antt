@@ -1,89 +1,60 @@
--- `attach::acknowledge` meets its contract, by the tests that lead to each answer.
+-- `attach::acknowledge` meets its contract, by what is judged first.
 use borrow.Author.Needs.{needs}
+use borrow.Author.Tests.{eq-eqb, ne-eqb}
 use Rattle.attach.specs.Attach.{acknowledged}
 use Rattle.attach.proofs.acknowledge.Statement.{statement}
 use Rattle.attach.proofs.acknowledge.Tie as tie
 
-byte-at-requires : tie.Need-byte-at-requires
-byte-at-requires c κs = search needs
+admit-requires : tie.Need-admit-requires
+admit-requires c κs = search needs
 
-byte-at-requires-2 : tie.Need-byte-at-requires-2
-byte-at-requires-2 c κs = search needs
+enum-told : tie.Need-enum-told
+enum-told c = search needs
 
-u64-at-requires : tie.Need-u64-at-requires
-u64-at-requires c κs = search needs
+assign-requires : tie.Need-assign-requires
+assign-requires c κs = search needs
 
-find-device-requires : tie.Need-find-device-requires
-find-device-requires c κs = search needs
+enum-known-admission : tie.Need-enum-known-admission
+enum-known-admission c = search needs
 
-is-uid-free-requires : tie.Need-is-uid-free-requires
-is-uid-free-requires c κs = search needs
+refuse-requires : tie.Need-refuse-requires
+refuse-requires c κs = search needs
 
-new-slot-requires : tie.Need-new-slot-requires
-new-slot-requires c κs = search needs
-
-find-place-requires : tie.Need-find-place-requires
-find-place-requires c κs = search needs
-
-settle-requires : tie.Need-settle-requires
-settle-requires c κs = c .find-place .ensures .1
+refuse-requires-2 : tie.Need-refuse-requires-2
+refuse-requires-2 c κs = search needs
 
 returns : tie.Need-returns
 unfolding acknowledged
 returns c =
     rw (
-      ← c .before .before .before .before .before .before .before .before .before .byte-at .ensures,
-      ← c .before .before .before .before .before .before .before .before .byte-at2 .ensures,
-      ← c .before .before .before .before .before .before .before .u64-at .ensures,
-      ← c .before .before .before .before .before .before .find-device .ensures,
-      c .before .before .before .before .before .if1 .taken,
-      ← c .before .before .before .before .is-uid-free .ensures,
-      c .before .before .before .if2 .taken,
-      ← c .before .before .new-slot .ensures,
-      ← c .before .find-place .ensures .0,
-    ) (c .settle .ensures)
-
-refuse-requires : tie.Need-refuse-requires
-refuse-requires c κs = search needs
+      ← c .before .before .before .before .admit .ensures,
+      c .before .before .enum-told .given .1,
+      eq-eqb _ _ (c .before .if1 .taken),
+    ) (c .assign .ensures)
 
 returns-2 : tie.Need-returns-2
 unfolding acknowledged
 returns-2 c =
     rw (
-      ← c .before .before .before .before .before .before .before .byte-at .ensures,
-      ← c .before .before .before .before .before .u64-at .ensures,
-      ← c .before .before .before .before .find-device .ensures,
-      c .before .before .before .if1 .taken,
-      ← c .before .before .is-uid-free .ensures,
-      c .before .if2 .left,
+      ← c .before .before .before .before .admit .ensures,
+      c .before .before .enum-told .given .1,
+      ne-eqb _ _ (c .before .if1 .left),
     ) (c .refuse .ensures)
-
-refuse-requires-2 : tie.Need-refuse-requires-2
-refuse-requires-2 c κs = search needs
 
 returns-3 : tie.Need-returns-3
 unfolding acknowledged
-returns-3 c =
-    rw (
-      ← c .before .before .before .before .before .byte-at .ensures,
-      ← c .before .before .find-device .ensures,
-      c .before .if1 .left,
-    ) (c .refuse2 .ensures)
+returns-3 c = rw (← c .before .before .before .before .admit .ensures, c .before .before .admission .given .1) (c .refuse2 .ensures)
 
 pub acknowledge-spec : {M : Type 1} → statement M
 acknowledge-spec =
     tie.close
     (tie.spec
-    byte-at-requires
-    byte-at-requires-2
-    u64-at-requires
-    find-device-requires
-    is-uid-free-requires
-    new-slot-requires
-    find-place-requires
-    settle-requires
+    admit-requires
+    enum-told
+    assign-requires
     returns
     refuse-requires
-    returns-2
+    enum-known-admission
     refuse-requires-2
+    returns-2
     returns-3)

@@ -1,7 +1,9 @@
 -- `dispatch` is `byType`, one arm for each type that the hub takes.
+use mathlib.Core.Path.{_∙_}
+use borrow.Author.Needs.{needs}
 use borrow.Author.Tests.{ne-eqb}
 use Rattle.hub.specs.Receive.{byType}
-use borrow.Author.Needs.{needs}
+use Rattle.hub.proofs.Judgements.{ack-once, data-once}
 use Rattle.hub.proofs.inbound.dispatch.Statement.{statement}
 use Rattle.hub.proofs.inbound.dispatch.Tie as tie
 
@@ -17,27 +19,27 @@ apply-data-requires c κs = search needs
 answer-update-requires-2 : tie.Need-answer-update-requires-2
 answer-update-requires-2 c κs = search needs
 
-accept-requires : tie.Need-accept-requires
-accept-requires c κs = search needs
+answer-only-requires : tie.Need-answer-only-requires
+answer-only-requires c κs = search needs
 
-refuse-requires : tie.Need-refuse-requires
-refuse-requires c κs = search needs
+answer-only-requires-2 : tie.Need-answer-only-requires-2
+answer-only-requires-2 c κs = search needs
 
 returns : tie.Need-returns
-unfolding byType
-returns c = rw (c .before .before .match .keys1, ← c .before .acknowledge .ensures) (c .answer-update .ensures)
+returns c =
+    rw (c .before .before .match .keys1) (c .answer-update .ensures ∙ ack-once _ _ _ _ _ _ (c .before .acknowledge .ensures))
 
 returns-2 : tie.Need-returns-2
-unfolding byType
-returns-2 c = rw (c .before .before .match .keys2, ← c .before .apply-data .ensures) (c .answer-update2 .ensures)
+returns-2 c =
+    rw (c .before .before .match .keys2) (c .answer-update2 .ensures ∙ data-once _ _ _ _ _ _ (c .before .apply-data .ensures))
 
 returns-3 : tie.Need-returns-3
 unfolding byType
-returns-3 c = rw (c .before .match .keys3) (c .accept .ensures)
+returns-3 c = rw (c .before .match .keys3) (c .answer-only .ensures)
 
 returns-4 : tie.Need-returns-4
 unfolding byType
-returns-4 c = let r = c .before .match .rest in rw (ne-eqb _ _ (r .0 .0 .1), ne-eqb _ _ (r .0 .1), ne-eqb _ _ (r .1)) (c .refuse .ensures)
+returns-4 c = let r = c .before .match .rest in rw (ne-eqb _ _ (r .0 .0 .1), ne-eqb _ _ (r .0 .1), ne-eqb _ _ (r .1)) (c .answer-only2 .ensures)
 
 pub dispatch-spec : {M : Type 1} → statement M
 dispatch-spec =
@@ -47,8 +49,8 @@ dispatch-spec =
     answer-update-requires
     apply-data-requires
     answer-update-requires-2
-    accept-requires
-    refuse-requires
+    answer-only-requires
+    answer-only-requires-2
     returns
     returns-2
     returns-3

@@ -1,41 +1,40 @@
--- `parameters::apply_data` meets its contract, by the socket's slot.
+-- `parameters::apply_data` meets its contract, by what is judged first.
 use borrow.Author.Needs.{needs}
 use Rattle.parameters.specs.Data.{applied}
 use Rattle.parameters.proofs.data.apply_data.Statement.{statement}
 use Rattle.parameters.proofs.data.apply_data.Tie as tie
 
-find-slot-requires : tie.Need-find-slot-requires
-find-slot-requires c κs = search needs
-
-enum-known-p : tie.Need-enum-known-p
-enum-known-p c = search needs
-
-apply-at-requires : tie.Need-apply-at-requires
-apply-at-requires c κs = rw (c .before .p .given .1) at (c .before .before .before .find-slot .ensures .1)
+admit-requires : tie.Need-admit-requires
+admit-requires c κs = search needs
 
 enum-told : tie.Need-enum-told
 enum-told c = search needs
+
+apply-payload-requires : tie.Need-apply-payload-requires
+apply-payload-requires c κs = search needs
+
+enum-known-a : tie.Need-enum-known-a
+enum-known-a c = search needs
 
 refuse-requires : tie.Need-refuse-requires
 refuse-requires c κs = search needs
 
 returns : tie.Need-returns
 unfolding applied
-returns c =
-    rw (← c .before .before .before .before .find-slot .ensures .0, c .before .before .p .given .1) (c .apply-at .ensures)
+returns c = rw (← c .before .before .before .admit .ensures, c .before .enum-told .given .1) (c .apply-payload .ensures)
 
 returns-2 : tie.Need-returns-2
 unfolding applied
-returns-2 c = rw (← c .before .before .before .find-slot .ensures .0, c .before .enum-told .given .1) (c .refuse .ensures)
+returns-2 c = rw (← c .before .before .before .before .admit .ensures, c .before .before .a .given .1) (c .refuse .ensures)
 
 pub apply-data-spec : {M : Type 1} → statement M
 apply-data-spec =
     tie.close
     (tie.spec
-    find-slot-requires
-    enum-known-p
-    apply-at-requires
+    admit-requires
     enum-told
+    apply-payload-requires
+    enum-known-a
     refuse-requires
     returns
     returns-2)

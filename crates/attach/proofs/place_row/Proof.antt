@@ -1,8 +1,8 @@
--- `attach::settle` meets its contract, by the place.
+-- `attach::place_row` meets its contract, by the place.
 use native.Mathlib.Omega.{arith}
 use borrow.Author.Needs.{needs}
-use Rattle.attach.proofs.settle.Statement.{statement}
-use Rattle.attach.proofs.settle.Tie as tie
+use Rattle.attach.proofs.place_row.Statement.{statement}
+use Rattle.attach.proofs.place_row.Tie as tie
 
 enum-known-p : tie.Need-enum-known-p
 enum-known-p c = search needs
@@ -25,7 +25,7 @@ returns c = rw (c .before .p .given .1)
 returns-2 : tie.Need-returns-2
 returns-2 c = rw (c .before .enum-told .given .1) (c .refuse .ensures)
 
-pub settle-spec : {M : Type 1} → statement M
-settle-spec =
+pub place-row-spec : {M : Type 1} → statement M
+place-row-spec =
     tie.close
     (tie.spec enum-known-p mul-s element-set-from-s enum-told refuse-requires returns returns-2)

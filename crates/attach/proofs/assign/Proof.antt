@@ -1,0 +1,89 @@
+-- `attach::assign` meets its contract, by the tests that lead to each answer.
+use borrow.Author.Needs.{needs}
+use Rattle.attach.specs.Attach.{assigned}
+use Rattle.attach.proofs.assign.Statement.{statement}
+use Rattle.attach.proofs.assign.Tie as tie
+
+byte-at-requires : tie.Need-byte-at-requires
+byte-at-requires c κs = search needs
+
+byte-at-requires-2 : tie.Need-byte-at-requires-2
+byte-at-requires-2 c κs = search needs
+
+u64-at-requires : tie.Need-u64-at-requires
+u64-at-requires c κs = search needs
+
+find-device-requires : tie.Need-find-device-requires
+find-device-requires c κs = search needs
+
+is-uid-free-requires : tie.Need-is-uid-free-requires
+is-uid-free-requires c κs = search needs
+
+new-slot-requires : tie.Need-new-slot-requires
+new-slot-requires c κs = search needs
+
+find-place-requires : tie.Need-find-place-requires
+find-place-requires c κs = search needs
+
+place-row-requires : tie.Need-place-row-requires
+place-row-requires c κs = c .find-place .ensures .1
+
+returns : tie.Need-returns
+unfolding assigned
+returns c =
+    rw (
+      ← c .before .before .before .before .before .before .before .before .before .byte-at .ensures,
+      ← c .before .before .before .before .before .before .before .before .byte-at2 .ensures,
+      ← c .before .before .before .before .before .before .before .u64-at .ensures,
+      ← c .before .before .before .before .before .before .find-device .ensures,
+      c .before .before .before .before .before .if1 .taken,
+      ← c .before .before .before .before .is-uid-free .ensures,
+      c .before .before .before .if2 .taken,
+      ← c .before .before .new-slot .ensures,
+      ← c .before .find-place .ensures .0,
+    ) (c .place-row .ensures)
+
+refuse-requires : tie.Need-refuse-requires
+refuse-requires c κs = search needs
+
+returns-2 : tie.Need-returns-2
+unfolding assigned
+returns-2 c =
+    rw (
+      ← c .before .before .before .before .before .before .before .byte-at .ensures,
+      ← c .before .before .before .before .before .u64-at .ensures,
+      ← c .before .before .before .before .find-device .ensures,
+      c .before .before .before .if1 .taken,
+      ← c .before .before .is-uid-free .ensures,
+      c .before .if2 .left,
+    ) (c .refuse .ensures)
+
+refuse-requires-2 : tie.Need-refuse-requires-2
+refuse-requires-2 c κs = search needs
+
+returns-3 : tie.Need-returns-3
+unfolding assigned
+returns-3 c =
+    rw (
+      ← c .before .before .before .before .before .byte-at .ensures,
+      ← c .before .before .find-device .ensures,
+      c .before .if1 .left,
+    ) (c .refuse2 .ensures)
+
+pub assign-spec : {M : Type 1} → statement M
+assign-spec =
+    tie.close
+    (tie.spec
+    byte-at-requires
+    byte-at-requires-2
+    u64-at-requires
+    find-device-requires
+    is-uid-free-requires
+    new-slot-requires
+    find-place-requires
+    place-row-requires
+    returns
+    refuse-requires
+    returns-2
+    refuse-requires-2
+    returns-3)
