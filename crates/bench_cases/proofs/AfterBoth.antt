@@ -9,11 +9,11 @@ use Rattle.list.specs.Bytes.{listBytes}
 use Rattle.publish.specs.Published.{pair, published}
 use Rattle.publish.proofs.Cases.{cases}
 use Rattle.hub.specs.Receive.{accepting, receivedOf}
-use Rattle.hub.proofs.Bench.{ackC, dataC, seatedC, filledC, bench-receive}
+use Rattle.hub.proofs.Bench.{ackC, dataC, attachedC, filledC, bench-receive}
 
 pub record AfterBoth : Type 0 where
-  pub ack : receivedOf catalogueC emptyTable 3 ackC ≡ accepting seatedC 16
-  pub values : receivedOf catalogueC seatedC 3 dataC ≡ accepting filledC 15
+  pub ack : receivedOf catalogueC emptyTable 3 ackC ≡ accepting attachedC 16
+  pub values : receivedOf catalogueC attachedC 3 dataC ≡ accepting filledC 15
   -- "(3 7 blob (0 7) (2 1)) within an outer list"
   pub published-list :
       published catalogueC filledC ≡
