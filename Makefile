@@ -1,9 +1,13 @@
-# make demo   proves and builds everything, then replays an evening with a faulty sensor
+# make demo   proves and builds everything, then replays the evening of the faulty sensor
 # make test   the gate: layout, tests from outside, then every proof from nothing
 # make fuzz   compares the product with the second reader for SECONDS seconds
 # make bench  time and instructions of the archive against the second reader
 
-.PHONY: demo test layout outside archive fuzz bench
+.PHONY: demo test layout outside built fuzz bench
+
+demo:
+	rt check
+	examples/demo.sh
 
 test: layout outside
 	rt ci
@@ -11,14 +15,18 @@ test: layout outside
 layout:
 	rt fmt --check
 
-archive:
+# The programs and the archive, each proved before it is built.
+built:
+	rt check run replay
 	rt staticlib display
 
-outside: archive
-	$(MAKE) --no-print-directory -C tests unit packet
+outside: built
+	tests/run_cases.sh
+	tests/replay_cases.sh
+	$(MAKE) --no-print-directory -C tests all
 
-fuzz: archive
+fuzz: built
 	$(MAKE) --no-print-directory -C tests fuzz
 
-bench: archive
+bench: built
 	$(MAKE) --no-print-directory -C tests bench

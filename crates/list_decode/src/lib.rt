@@ -4,14 +4,12 @@ mod item;
 mod packed;
 
 use list::LIST_LIMIT;
+use list::ROW_BYTES;
 use list::ROW_NUMBERS;
 use list_check::Checked;
 ghost use mathlib.Core.Path.{_≡_};
 ghost use Rattle.list_decode.specs.Decode.{outcome, decodeOf};
 ghost use Rattle.list_decode.specs.Packed.{decodePackedOf};
-
-// The room that rows must have as bytes, four to a number.
-const ROW_BYTES: usize = 4 * ROW_NUMBERS;
 
 // The list at the front: the bytes it takes and the rows it fills; or 01's number and the offset of the item at fault.
 pub enum Decoded {

@@ -1,0 +1,47 @@
+#!/usr/bin/env bash
+# Replays the evening of the faulty sensor and shows what the hub answers, keeps and posts; then reads back what it posted.
+set -euo pipefail
+cd "$(dirname "$0")/.."
+answers=target/demo.answers
+posted=target/demo.posted
+
+target/bin/replay < examples/evening.capture > "$answers"
+
+echo "A cup sensor on socket 2 and a syrup pump on socket 5; the sensor then sends bad packets."
+echo "Each line: what came, and what the hub answered. The table and the posted list are shown where they changed."
+echo
+paste -d '\t' examples/evening.steps "$answers" | awk -F '\t' '
+function byte(hex, at) { return substr(hex, 2 * at + 1, 2) }
+function slot(hex, i,    from, p, held) {
+    from = 172 * i
+    if (byte(hex, from) == "00") return "    slot " i ": empty"
+    held = ""
+    for (p = 0; p < 32; p++)
+        if (byte(hex, from + 12 + p) == "01") held = held " " p "=" substr(hex, 2 * (from + 44 + 4 * p) + 1, 8)
+    return "    slot " i ": socket " byte(hex, from + 1) " type " byte(hex, from + 2) " year " byte(hex, from + 3) \
+        " uid " substr(hex, 2 * (from + 4) + 1, 16) " held" held
+}
+{
+    split($2, word, " ")
+    if (word[1] == "table") {
+        if ($2 == table) { print "    table: as before"; next }
+        table = $2
+        print "    table (hex, low byte first):"
+        for (i = 0; i < 4; i++) print slot(word[2], i)
+    } else if (word[1] == "posted") {
+        if ($2 == list) { print "    list: as before"; next }
+        list = $2
+        print "    list of " word[2] " bytes: " word[3]
+    } else {
+        print $1 ": " $2
+    }
+}'
+
+# Every list that the hub posted, end to end, as a display receives them.
+: > "$posted"
+for hex in $(awk '$1 == "posted" { print $3 }' "$answers"); do
+    printf "$(echo "$hex" | sed 's/../\\x&/g')" >> "$posted"
+done
+echo
+echo "The posted lists, end to end, read by the run program (the first and the last lines):"
+target/bin/run < "$posted" | sed -n '1,2p;$p'
