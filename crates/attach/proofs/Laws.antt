@@ -1,12 +1,16 @@
 -- ACK and leaving change exactly what 01 says: one slot's row or nothing, and a lawful table stays lawful.
-use Prim.Native.Nat.{ℕ, _<_}
+use Prim.Native.Nat.{ℕ, zero, suc, _<_}
 use mathlib.Core.Path.{_≡_, refl, sym, ap, _∙_}
 use mathlib.Core.Bool.{Bool, true, false, not, cond, _&&_}
-use mathlib.Core.List.{List}
+use mathlib.Core.List.{List, [], _∷_}
 use mathlib.Core.Logic.{inl, inr, _≢_}
+use native.Mathlib.Omega.{arith}
 use lib.Dec.{eqb}
-use lib.ListN.{length}
+use lib.ListN.{length, take, drop, length-drop}
+use lib.Seq.{take-all}
 use borrow.Author.Tests.{eq-eqb, ne-eqb, eqb-true, eqb-false}
+use Rattle.wire.specs.Number.{leValue, leBytes, Bytes}
+use Rattle.wire.proofs.Numbers.{bytes-of-value}
 use Rattle.wire.proofs.Chains.{every-at}
 use Rattle.catalogue.specs.Lookup.{deviceOf}
 use Rattle.table.specs.Slots.{slotCount, Shaped, emptySlot, slotAt, withSlot, holds, slotOf, refused, accepted}
@@ -19,7 +23,7 @@ use Rattle.table.specs.declared.Answer.{Answer}
 use Rattle.table.specs.declared.Answer.the-variants.{Accepted, Refused}
 use Rattle.table.specs.declared.Update.{Update}
 use Rattle.table.proofs.Tests.{never, every-of}
-use Rattle.table.proofs.Places.{holds-parts, holds-not, slot-found, slot-none, free-found}
+use Rattle.table.proofs.Places.{holds-parts, holds-not, slot-found, slot-none, free-found, none-free}
 use Rattle.table.proofs.Meaning.{lawful-means}
 use Rattle.table.proofs.Keeps.{Apart, fresh-lawful, empty-slot-lawful, fresh-shaped}
 use Rattle.table.proofs.Admission.{isAccepted, admitted-means}
@@ -34,6 +38,11 @@ emptied-outcome : (t : Table) (p : Place) → Outcome t p (λ i. emptySlot) (emp
 emptied-outcome t (At i) = inl (record { index = i; place = refl; result = refl })
 emptied-outcome t Nowhere = inr (record { number = 15; result = refl })
 
+drop-bytes : (n : ℕ) (s : List ℕ) → Bytes s → Bytes (drop n s)
+drop-bytes zero s h = h
+drop-bytes (suc n) [] h = tt
+drop-bytes (suc n) (b ∷ s) h = drop-bytes n s (h .1)
+
 -- the socket's own slot holds its device, and no other slot does
 alone :
     (c : List ℕ) (t : Table) (socket i j : ℕ) → Lawful c t → i < slotCount → j < slotCount → j ≢ i → holds (slotAt t i) socket ≡ true →
@@ -46,6 +55,27 @@ alone c t socket i j h l m ne s = go (holds (slotAt t j) socket) refl
         let x = holds-parts (slotAt t i) socket s in
         let z = holds-parts (slotAt t j) socket e in
         absurd (h .sockets-differ j i m l ne (z .0) (x .0) (z .1 ∙ sym (x .1)))
+
+-- LAW: a free UID is that of no device on another socket
+pub free-means :
+    (t : Table) (socket uid : ℕ) → uidFree t socket uid ≡ true → (j : ℕ) → j < slotCount → slotAt t j .taken ≡ true →
+    slotAt t j .socket ≢ socket → slotAt t j .uid ≢ uid
+unfolding uidFree uidElsewhere
+free-means t socket uid h j l u ne e =
+    never
+    (sym
+    (rw (u, ne-eqb (slotAt t j .socket) socket ne, eq-eqb (slotAt t j .uid) uid e) at
+    (every-at slotCount (λ i. not (uidElsewhere socket uid (slotAt t i))) h j l)))
+
+-- the UID of a device on another socket is not free
+not-free :
+    (t : Table) (socket uid j : ℕ) → j < slotCount → slotAt t j .taken ≡ true → slotAt t j .socket ≢ socket → slotAt t j .uid ≡ uid →
+    uidFree t socket uid ≡ false
+not-free t socket uid j l u ne e = go (uidFree t socket uid) refl
+  where
+    go : (b : Bool) → uidFree t socket uid ≡ b → b ≡ false
+    go false f = refl
+    go true f = absurd (free-means t socket uid f j l u ne e)
 
 uid-free :
     (t : Table) (socket uid : ℕ) → ((j : ℕ) → j < slotCount → uidElsewhere socket uid (slotAt t j) ≡ false) → uidFree t socket uid ≡ true
@@ -213,6 +243,28 @@ module _ (c : List ℕ) (t : Table) (socket : ℕ) (payload : List ℕ) where
           acknowledged c t socket payload ≡ accepted (withSlot t i (rowOf socket payload))
       second-ack i e own =
           other-uid-ack i (rw own (uid-free t socket (slotAt t i .uid) (own-uid i (admitted-means c t socket a .1) e))) e
+
+      -- LAW: 14 is given where a device on another socket has the UID, whether or not a slot is empty
+      pub uid-taken-ack :
+          (j : ℕ) → j < slotCount → slotAt t j .taken ≡ true → slotAt t j .socket ≢ socket → slotAt t j .uid ≡ uidIn payload →
+          acknowledged c t socket payload ≡ refused t 14
+      unfolding acknowledged assigned
+      uid-taken-ack j l u ne e =
+          rw (a, eq-eqb (length payload) ackBytes n, k, not-free t socket (uidIn payload) j l u ne e)
+
+      -- LAW: 13 is given where the socket has no slot and all are taken
+      pub full-ack :
+          uidFree t socket (uidIn payload) ≡ true → slotOf t socket ≡ Nowhere →
+          ((j : ℕ) → j < slotCount → slotAt t j .taken ≡ true) → acknowledged c t socket payload ≡ refused t 13
+      unfolding acknowledged assigned
+      full-ack f e all = rw (a, eq-eqb (length payload) ackBytes n, k, f, e, none-free t all)
+
+-- LAW: an ACK's UID is its last eight bytes, so these are what a list of the table says
+pub uid-bytes : (payload : List ℕ) → Bytes payload → length payload ≡ ackBytes → leBytes 8 (uidIn payload) ≡ drop 2 payload
+uid-bytes payload h n =
+    let l : length (drop 2 payload) ≡ 8 = omega (arith, length-drop 2 payload) in
+    let e : take 8 (drop 2 payload) ≡ drop 2 payload = take-all 8 (drop 2 payload) (omega arith) in
+    rw e (ap (λ (w : ℕ). leBytes w (leValue (drop 2 payload))) (sym l) ∙ bytes-of-value (drop 2 payload) (drop-bytes 2 payload h))
 
 module _ (c : List ℕ) (t : Table) (socket : ℕ) where
   -- LAW: leaving empties the socket's slot, or is refused and keeps the table

@@ -17,23 +17,24 @@ use Rattle.packet.specs.Packet as packet
 use Rattle.packet.proofs.Accepted.{complete, sound}
 use Rattle.packet.proofs.DecodeStages.{decoded-refused}
 use Rattle.catalogue.specs.Lookup.{deviceOf}
-use Rattle.table.specs.Slots.{paramCount, Shaped, slotAt, withSlot, slotOf}
+use Rattle.table.specs.Slots.{slotCount, paramCount, Shaped, slotAt, withSlot, slotOf}
 use Rattle.table.specs.Lawful.{presentAt, bitsAt, admitted}
 use Rattle.table.specs.declared.Slot.{Slot}
 use Rattle.table.specs.declared.Table.{Table}
 use Rattle.table.specs.declared.Place.{Place}
-use Rattle.table.specs.declared.Place.the-variants.{At}
+use Rattle.table.specs.declared.Place.the-variants.{At, Nowhere}
 use Rattle.table.specs.declared.Answer.{Answer}
 use Rattle.table.specs.declared.Answer.the-variants.{Accepted, Refused}
 use Rattle.table.specs.declared.Update.{Update}
 use Rattle.table.proofs.Tests.{never}
 use Rattle.table.proofs.Places.{slot-found, same-slot}
 use Rattle.table.proofs.Outcome.{Changed}
-use Rattle.attach.specs.Attach.{ackBytes, deviceIn, uidIn, uidFree, placeFor, rowOf, acknowledged}
-use Rattle.attach.proofs.Laws.{ack-accepted, ack-accepts, second-ack}
-use Rattle.parameters.specs.Data.{mapOf, named, valueIn, stored, applied}
+use Rattle.attach.specs.Attach.{ackBytes, deviceIn, uidIn, uidFree, orFree, placeFor, rowOf, acknowledged}
+use Rattle.attach.proofs.Laws.{ack-accepted, ack-accepts, second-ack, uid-taken-ack, full-ack}
+use Rattle.parameters.specs.Data.{mapOf, named, valueIn, stored, dataSized, applied}
 use Rattle.parameters.proofs.Values.{SameDevice, data-same-device, data-present, data-bits}
-use Rattle.parameters.proofs.Laws.{data-accepted}
+use Rattle.parameters.proofs.Judged.{Judged, means-judged}
+use Rattle.parameters.proofs.Laws.{data-accepted, data-stores}
 use Rattle.hub.specs.Receive.{Outcome, accepted, refused, Receiving, refusing, accepting, answering, payloadIn, byType, byJudgement, byReading, receivedIf, receivedOf}
 use Rattle.hub.proofs.Keeps.{answering-accepted}
 
@@ -124,6 +125,11 @@ ack-size : {n : ℕ} → allowed ACK n ≡ true → n ≡ ackBytes
 unfolding allowed allows
 ack-size {n} h = omega (arith, leb-true 10 n (and-left (leb 10 n) (leb n 10) h), leb-true n 10 (and-right (leb 10 n) (leb n 10) h))
 
+-- a data payload has 4 to 132
+data-size : (n : ℕ) → allowed DEVICE_DATA n ≡ true → dataSized n ≡ true
+unfolding allowed allows
+data-size n h = h
+
 -- a legal catalogue, a lawful table and a socket below 8
 module _ (c : List ℕ) (t : Table) (socket : ℕ) (s : List ℕ) (a : admitted c t socket ≡ Accepted) where
   -- LAW: the packet reader's error is the answer
@@ -175,11 +181,11 @@ module _ (c : List ℕ) (t : Table) (socket : ℕ) (s : List ℕ) (a : admitted 
         rw e (replaced t (placeFor t socket) (λ i. rowOf socket payload) u consumed (ack-accepted c t socket payload k))
 
     -- LAW: an ACK is accepted where its type is in the catalogue, its UID on no other socket, and there is a slot for it
-    pub ack-seats :
+    pub ack-placed :
         (i : ℕ) → StartsWith s ACK payload consumed → deviceOf c (deviceIn payload) .known ≡ true →
         uidFree t socket (uidIn payload) ≡ true → placeFor t socket ≡ At i →
         receivedOf c t socket s ≡ accepting (withSlot t i (rowOf socket payload)) consumed
-    ack-seats i w k f e =
+    ack-placed i w k f e =
         ack-received w ∙
         ap (λ (u : Update). answering u consumed) (ack-accepts c t socket payload a (ack-size (w .packet .allows)) k i f e)
 
@@ -190,6 +196,37 @@ module _ (c : List ℕ) (t : Table) (socket : ℕ) (s : List ℕ) (a : admitted 
     second-ack-received i w e k own =
         ack-received w ∙
         ap (λ (u : Update). answering u consumed) (second-ack c t socket payload a (ack-size (w .packet .allows)) k i e own)
+
+    -- LAW: so is a second ACK with another UID that is on no other socket, also where all slots are taken
+    pub other-uid-received :
+        (i : ℕ) → StartsWith s ACK payload consumed → slotOf t socket ≡ At i → deviceOf c (deviceIn payload) .known ≡ true →
+        uidFree t socket (uidIn payload) ≡ true → receivedOf c t socket s ≡ accepting (withSlot t i (rowOf socket payload)) consumed
+    other-uid-received i w e k f = ack-placed i w k f (ap (orFree t) e)
+
+    -- LAW: 14 where a device on another socket has the UID
+    pub uid-taken-received :
+        (j : ℕ) → StartsWith s ACK payload consumed → deviceOf c (deviceIn payload) .known ≡ true → j < slotCount →
+        slotAt t j .taken ≡ true → slotAt t j .socket ≢ socket → slotAt t j .uid ≡ uidIn payload → receivedOf c t socket s ≡ refusing t 14
+    uid-taken-received j w k l u ne e =
+        ack-received w ∙
+        ap (λ (v : Update). answering v consumed) (uid-taken-ack c t socket payload a (ack-size (w .packet .allows)) k j l u ne e)
+
+    -- LAW: 13 where the socket has no slot and all are taken
+    pub full-received :
+        StartsWith s ACK payload consumed → deviceOf c (deviceIn payload) .known ≡ true → uidFree t socket (uidIn payload) ≡ true →
+        slotOf t socket ≡ Nowhere → ((j : ℕ) → j < slotCount → slotAt t j .taken ≡ true) → receivedOf c t socket s ≡ refusing t 13
+    full-received w k f e all =
+        ack-received w ∙
+        ap (λ (v : Update). answering v consumed) (full-ack c t socket payload a (ack-size (w .packet .allows)) k f e all)
+
+    -- LAW: DEVICE_DATA that fits the device on the socket is accepted, and its values are in that device's row
+    pub data-placed :
+        (i : ℕ) → StartsWith s DEVICE_DATA payload consumed → slotOf t socket ≡ At i → Judged c (slotAt t i .device) payload →
+        receivedOf c t socket s ≡ accepting (withSlot t i (stored c payload (slotAt t i))) consumed
+    data-placed i w e j =
+        data-received w ∙
+        ap (λ (u : Update). answering u consumed)
+        (data-stores c t socket payload i a (data-size (length payload) (w .packet .allows)) e (means-judged c (slotAt t i .device) payload j))
 
     -- LAW: accepted DEVICE_DATA replaces the row of the socket's own slot
     pub data-row :

@@ -1,16 +1,13 @@
 -- DEVICE_DATA replaces one slot's values or is refused, and a lawful table stays lawful.
 use Prim.Native.Nat.{ℕ, _≤_, _<_}
 use mathlib.Core.Path.{_≡_, refl, sym, ap, _∙_}
-use mathlib.Core.Bool.{Bool, true, false, cond, _&&_}
+use mathlib.Core.Bool.{Bool, true, false, cond}
 use mathlib.Core.List.{List}
 use mathlib.Core.Logic.{inl, inr, _≢_}
-use lib.Dec.{eqb, leb}
 use lib.ListN.{length}
-use borrow.Author.Tests.{eq-eqb, leb-true}
-use Rattle.wire.proofs.Chains.{and-true, every-at}
 use Rattle.catalogue.specs.Format.{kindBool}
 use Rattle.catalogue.specs.Lookup.{parameterOf}
-use Rattle.table.specs.Slots.{slotCount, paramCount, ShapedSlot, Shaped, slotAt, slotOf, refused}
+use Rattle.table.specs.Slots.{slotCount, paramCount, ShapedSlot, Shaped, slotAt, withSlot, slotOf, refused, accepted}
 use Rattle.table.specs.Lawful.{presentAt, bitsAt, LawfulSlot, Lawful, lawful, admitted, ifAdmitted}
 use Rattle.table.specs.declared.Slot.{Slot}
 use Rattle.table.specs.declared.Table.{Table}
@@ -19,28 +16,15 @@ use Rattle.table.specs.declared.Place.the-variants.{At, Nowhere}
 use Rattle.table.specs.declared.Answer.{Answer}
 use Rattle.table.specs.declared.Answer.the-variants.{Accepted, Refused}
 use Rattle.table.specs.declared.Update.{Update}
-use Rattle.table.proofs.Tests.{never, imply}
+use Rattle.table.proofs.Tests.{never}
 use Rattle.table.proofs.Places.{holds-parts, slot-found}
 use Rattle.table.proofs.Meaning.{lawful-means}
 use Rattle.table.proofs.Keeps.{Apart}
 use Rattle.table.proofs.Admission.{isAccepted}
 use Rattle.table.proofs.Outcome.{Changed, Outcome, outcome-others, outcome-refused, outcome-accepted, outcome-lawful, outcome-shaped}
-use Rattle.parameters.specs.Data.{mapOf, named, valueIn, readableIf, allReadable, sizeOf, flagIf, allFlags, judged, stored, appliedIf, appliedTo, appliedAt, dataSized, appliedBy, applied}
+use Rattle.parameters.specs.Data.{mapOf, named, valueIn, judged, stored, appliedIf, appliedTo, appliedAt, dataSized, appliedBy, applied}
+use Rattle.parameters.proofs.Judged.{Judged, judged-means}
 use Rattle.parameters.proofs.Values.{SameDevice, data-same-device, data-present, data-bits, data-shaped-slot}
-
--- what an accepted payload was judged by
-judged-parts :
-    (c : List ℕ) (device : ℕ) (payload : List ℕ) → judged c device payload ≡ Accepted →
-    (allReadable c device (mapOf payload) ≡ true) × (allFlags c device (mapOf payload) payload ≡ true)
-unfolding judged
-judged-parts c device payload =
-    go (allReadable c device (mapOf payload)) (eqb (sizeOf c device (mapOf payload)) (length payload)) (allFlags c device (mapOf payload) payload)
-  where
-    go : (a b d : Bool) → cond a (cond b (cond d Accepted (Refused 18)) (Refused 17)) (Refused 16) ≡ Accepted → (a ≡ true) × (d ≡ true)
-    go true true true e = (refl, refl)
-    go true true false e = never (sym (ap isAccepted e))
-    go true false d e = never (sym (ap isAccepted e))
-    go false b d e = never (sym (ap isAccepted e))
 
 -- the row with the payload's values is lawful where the row was and the payload is accepted
 module _ (c : List ℕ) (payload : List ℕ) (s : Slot) (z : ShapedSlot s) (u : s .taken ≡ true) (h : LawfulSlot c s) where
@@ -53,22 +37,6 @@ module _ (c : List ℕ) (payload : List ℕ) (s : Slot) (z : ShapedSlot s) (u : 
   same : SameDevice s after
   same = data-same-device c payload s
 
-  readable-named :
-      allReadable c (s .device) map ≡ true → (p : ℕ) → p < paramCount → named map p ≡ true → parameterOf c (s .device) p .readable ≡ true
-  unfolding allReadable
-  readable-named r p l n =
-      imply (named map p) (parameterOf c (s .device) p .readable) (every-at paramCount (λ q. readableIf c (s .device) q (named map q)) r p l) n
-
-  flag-named :
-      allFlags c (s .device) map payload ≡ true → (p : ℕ) → p < paramCount → named map p ≡ true →
-      parameterOf c (s .device) p .kind ≡ kindBool → valueIn c (s .device) map payload p ≤ 1
-  unfolding allFlags
-  flag-named f p l n k =
-      leb-true (valueIn c (s .device) map payload p) 1
-      (imply (named map p && eqb (parameterOf c (s .device) p .kind) kindBool) (leb (valueIn c (s .device) map payload p) 1)
-      (every-at paramCount (λ q. flagIf c (s .device) q (named map q) (valueIn c (s .device) map payload q)) f p l)
-      (and-true (named map p) (eqb (parameterOf c (s .device) p .kind) kindBool) n (eq-eqb (parameterOf c (s .device) p .kind) kindBool k)))
-
   absent-after :
       (b : Bool) (p : ℕ) → p < paramCount → cond b true (presentAt s p) ≡ false →
       cond b (valueIn c (s .device) map payload p) (bitsAt s p) ≡ 0
@@ -76,21 +44,21 @@ module _ (c : List ℕ) (payload : List ℕ) (s : Slot) (z : ShapedSlot s) (u : 
   absent-after false p l e = h .absent-zero p l e
 
   readable-after :
-      allReadable c (s .device) map ≡ true → (b : Bool) → (p : ℕ) → p < paramCount → named map p ≡ b →
+      Judged c (s .device) payload → (b : Bool) → (p : ℕ) → p < paramCount → named map p ≡ b →
       cond b true (presentAt s p) ≡ true → parameterOf c (s .device) p .readable ≡ true
-  readable-after r true p l n e = readable-named r p l n
-  readable-after r false p l n e = h .value-readable p l e
+  readable-after g true p l n e = g .readable p l n
+  readable-after g false p l n e = h .value-readable p l e
 
   flag-after :
-      allFlags c (s .device) map payload ≡ true → (b : Bool) → (p : ℕ) → p < paramCount → named map p ≡ b →
+      Judged c (s .device) payload → (b : Bool) → (p : ℕ) → p < paramCount → named map p ≡ b →
       cond b true (presentAt s p) ≡ true → parameterOf c (s .device) p .kind ≡ kindBool →
       cond b (valueIn c (s .device) map payload p) (bitsAt s p) ≤ 1
-  flag-after f true p l n e k = flag-named f p l n k
-  flag-after f false p l n e k = h .flag-small p l e k
+  flag-after g true p l n e k = g .flags p l n k
+  flag-after g false p l n e k = h .flag-small p l e k
 
   stored-lawful : judged c (s .device) payload ≡ Accepted → LawfulSlot c (stored c payload s)
   stored-lawful a =
-      let g = judged-parts c (s .device) payload a in
+      let g = judged-means c (s .device) payload a in
       let no : after .taken ≡ false → ⊥ = λ e. never (sym u ∙ sym (same .taken-same) ∙ e) in
       record {
         socket-small = λ e. rw (same .socket-same) (h .socket-small u);
@@ -100,11 +68,11 @@ module _ (c : List ℕ) (payload : List ℕ) (s : Slot) (z : ShapedSlot s) (u : 
             λ p l e. data-bits c payload s z p l ∙ absent-after (named map p) p l (sym (data-present c payload s z p l) ∙ e);
         type-known = λ e. rw (same .device-same) (h .type-known u);
         value-readable =
-            λ p l e. rw (same .device-same) (readable-after (g .0) (named map p) p l refl (sym (data-present c payload s z p l) ∙ e));
+            λ p l e. rw (same .device-same) (readable-after g (named map p) p l refl (sym (data-present c payload s z p l) ∙ e));
         flag-small =
             λ p l e k.
             rw (data-bits c payload s z p l)
-            (flag-after (g .1) (named map p) p l refl (sym (data-present c payload s z p l) ∙ e) (rw (same .device-same) at k));
+            (flag-after g (named map p) p l refl (sym (data-present c payload s z p l) ∙ e) (rw (same .device-same) at k));
       }
 
 module _ (c : List ℕ) (t : Table) (socket : ℕ) (payload : List ℕ) where
@@ -145,6 +113,14 @@ module _ (c : List ℕ) (t : Table) (socket : ℕ) (payload : List ℕ) where
       applied c t socket payload .answer ≡ Accepted →
       Changed t (slotOf t socket) (λ i. stored c payload (slotAt t i)) (applied c t socket payload)
   data-accepted = outcome-accepted t (slotOf t socket) rowAt (applied c t socket payload) data-outcome
+
+  -- LAW: a payload that fits the device on the socket is stored in its row
+  pub data-stores :
+      (i : ℕ) → admitted c t socket ≡ Accepted → dataSized (length payload) ≡ true → slotOf t socket ≡ At i →
+      judged c (slotAt t i .device) payload ≡ Accepted →
+      applied c t socket payload ≡ accepted (withSlot t i (stored c payload (slotAt t i)))
+  unfolding applied appliedBy appliedTo
+  data-stores i a n e j = rw (a, n, e, j)
 
   pub data-shaped : Shaped t → Shaped (applied c t socket payload .table)
   data-shaped z =

@@ -1,5 +1,6 @@
 pub mod Steps
 pub mod Stores
 pub mod Values
+pub mod Judged
 pub mod Laws
 pub mod Bench

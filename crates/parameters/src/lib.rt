@@ -4,7 +4,6 @@ mod read;
 
 pub use data::apply_data;
 pub use read::read_parameter;
-pub use read::read_slot;
 use value::Value;
 
 // What is held of one parameter.

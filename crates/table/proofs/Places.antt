@@ -93,6 +93,31 @@ pub free-found :
     (slotAt t i .taken ≡ false) × (i < slotCount) × ((j : ℕ) → j < i → slotAt t j .taken ≡ true)
 free-found t i e = let f = free-from slotCount t 0 i e in (f .0, omega (arith, f .1), λ j m. f .2 j (omega arith) m)
 
+full-from :
+    (n : ℕ) (t : Table) (i₀ : ℕ) → freeFrom n t i₀ ≡ Nowhere → (j : ℕ) → i₀ ≤ j → j < i₀ + n → slotAt t j .taken ≡ true
+unfolding freeFrom
+full-from zero t i₀ e j l m = absurd (omega arith)
+full-from (suc n) t i₀ e j l m = go (slotAt t i₀ .taken) refl e (λ f. full-from n t (i₀ + 1) f j)
+  where
+    go :
+        (b : Bool) → slotAt t i₀ .taken ≡ b → cond b (freeFrom n t (i₀ + 1)) (At i₀) ≡ Nowhere →
+        (freeFrom n t (i₀ + 1) ≡ Nowhere → i₀ + 1 ≤ j → j < i₀ + 1 + n → slotAt t j .taken ≡ true) → slotAt t j .taken ≡ true
+    go false f g rest = never (sym (ap isNowhere g))
+    go true f g rest =
+        ⊎-elim (λ (q : i₀ ≡ j). rw (← q) f) (λ (x : i₀ < j). rest g (omega arith) (omega arith)) (eq-or-lt-of-le l)
+
+-- LAW: where no slot is free, all are taken
+pub free-none : (t : Table) → freeOf t ≡ Nowhere → (j : ℕ) → j < slotCount → slotAt t j .taken ≡ true
+free-none t e j l = full-from slotCount t 0 e j (omega arith) (omega arith)
+
+-- LAW: where all slots are taken, none is free
+pub none-free : (t : Table) → ((j : ℕ) → j < slotCount → slotAt t j .taken ≡ true) → freeOf t ≡ Nowhere
+none-free t h = go (freeOf t) refl
+  where
+    go : (p : Place) → freeOf t ≡ p → p ≡ Nowhere
+    go Nowhere e = refl
+    go (At i) e = let f = free-found t i e in never (sym (h i (f .1)) ∙ f .0)
+
 -- an element after a store is the stored one, at its index, or the old one
 pub set-cases :
     {A : Type 0} (l : List A) (i j : ℕ) (a d : A) →
