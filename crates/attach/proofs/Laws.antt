@@ -1,8 +1,8 @@
 -- ACK and leaving change exactly what 01 says: one slot's row or nothing, and a lawful table stays lawful.
-use Prim.Native.Nat.{ℕ, zero, suc, _<_}
+use Prim.Native.Nat.{ℕ, _<_}
 use mathlib.Core.Path.{_≡_, refl, sym, ap, _∙_}
 use mathlib.Core.Bool.{Bool, true, false, not, cond, _&&_}
-use mathlib.Core.List.{List, [], _∷_}
+use mathlib.Core.List.{List}
 use mathlib.Core.Logic.{inl, inr, _≢_}
 use native.Mathlib.Omega.{arith}
 use lib.Dec.{eqb}
@@ -23,6 +23,7 @@ use Rattle.table.specs.declared.Answer.{Answer}
 use Rattle.table.specs.declared.Answer.the-variants.{Accepted, Refused}
 use Rattle.table.specs.declared.Update.{Update}
 use Rattle.table.proofs.Tests.{never, every-of}
+use Rattle.table.proofs.ByteLists.{drop-bytes}
 use Rattle.table.proofs.Places.{holds-parts, holds-not, slot-found, slot-none, free-found, none-free}
 use Rattle.table.proofs.Meaning.{lawful-means}
 use Rattle.table.proofs.Keeps.{Apart, fresh-lawful, empty-slot-lawful, fresh-shaped}
@@ -37,11 +38,6 @@ placed-outcome t s Nowhere = inr (record { number = 13; result = refl })
 emptied-outcome : (t : Table) (p : Place) → Outcome t p (λ i. emptySlot) (emptied t p)
 emptied-outcome t (At i) = inl (record { index = i; place = refl; result = refl })
 emptied-outcome t Nowhere = inr (record { number = 15; result = refl })
-
-drop-bytes : (n : ℕ) (s : List ℕ) → Bytes s → Bytes (drop n s)
-drop-bytes zero s h = h
-drop-bytes (suc n) [] h = tt
-drop-bytes (suc n) (b ∷ s) h = drop-bytes n s (h .1)
 
 -- the socket's own slot holds its device, and no other slot does
 alone :

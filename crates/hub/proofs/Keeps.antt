@@ -3,12 +3,12 @@ use Prim.Native.Nat.{ℕ}
 use mathlib.Core.Path.{_≡_, refl, sym, ap, _∙_}
 use mathlib.Core.Bool.{Bool, true, false, cond}
 use mathlib.Core.List.{List}
-use mathlib.Core.Logic.{_≢_}
+use mathlib.Core.Logic.{_⊎_, inl, _≢_}
 use lib.Dec.{eqb}
 use Rattle.packet.specs.TypeTable.{ACK, DEVICE_DATA, LOG}
 use Rattle.packet.specs.Packet.{Judgement, decoded}
 use Rattle.packet.specs.Packet as packet
-use Rattle.table.specs.Slots.{Shaped, slotAt}
+use Rattle.table.specs.Slots.{Shaped, slotAt, slotOf}
 use Rattle.table.specs.Lawful.{lawful, admitted}
 use Rattle.table.specs.declared.Table.{Table}
 use Rattle.table.specs.declared.Place.the-variants.{At}
@@ -16,10 +16,13 @@ use Rattle.table.specs.declared.Answer.{Answer}
 use Rattle.table.specs.declared.Answer.the-variants.{Accepted, Refused}
 use Rattle.table.specs.declared.Update.{Update}
 use Rattle.table.proofs.Tests.{never}
-use Rattle.attach.specs.Attach.{orFree, placeFor, acknowledged}
-use Rattle.attach.proofs.Laws.{not-its-place, ack-others, ack-refused, ack-lawful, ack-shaped}
-use Rattle.parameters.specs.Data.{applied}
-use Rattle.parameters.proofs.Laws.{data-others, data-refused, data-lawful, data-shaped}
+use Rattle.table.proofs.Places.{holds-parts, slot-found}
+use Rattle.table.proofs.Outcome.{outcome-either}
+use Rattle.attach.specs.Attach.{orFree, placeFor, rowOf, acknowledged}
+use Rattle.attach.proofs.Laws.{not-its-place, ack-outcome, ack-others, ack-refused, ack-lawful, ack-shaped}
+use Rattle.parameters.specs.Data.{stored, applied}
+use Rattle.parameters.proofs.Values.{data-same-device}
+use Rattle.parameters.proofs.Laws.{data-outcome, data-others, data-refused, data-lawful, data-shaped}
 use Rattle.hub.specs.Receive.{Outcome, accepted, refused, Receiving, refusing, accepting, answeringBy, answering, payloadIn, byType, byJudgement, byReading, receivedIf, receivedOf}
 
 abbrev isAccepted : Outcome → Bool
@@ -27,38 +30,49 @@ isAccepted (accepted consumed) = true
 isAccepted (refused number) = false
 
 module _
-    (c : List ℕ) (t : Table) (socket : ℕ) (P : Receiving → Type 0) (no : (number : ℕ) → P (refusing t number))
+    (c : List ℕ) (t : Table) (socket : ℕ) (G : List ℕ → Type 0) (P : Receiving → Type 0) (no : (number : ℕ) → P (refusing t number))
     (none : (consumed : ℕ) → P (accepting t consumed))
-    (ack : (payload : List ℕ) (consumed : ℕ) → P (answering (acknowledged c t socket payload) consumed))
-    (values : (payload : List ℕ) (consumed : ℕ) → P (answering (applied c t socket payload) consumed))
+    (ack : (payload : List ℕ) → G payload → (consumed : ℕ) → P (answering (acknowledged c t socket payload) consumed))
+    (values : (payload : List ℕ) → G payload → (consumed : ℕ) → P (answering (applied c t socket payload) consumed))
   where
-    by-type : (kind : ℕ) (payload : List ℕ) (consumed : ℕ) → P (byType c t socket kind payload consumed)
+    by-type : (kind : ℕ) (payload : List ℕ) → G payload → (consumed : ℕ) → P (byType c t socket kind payload consumed)
     unfolding byType
-    by-type kind payload consumed = go (eqb kind ACK) (eqb kind DEVICE_DATA) (eqb kind LOG)
+    by-type kind payload g consumed = go (eqb kind ACK) (eqb kind DEVICE_DATA) (eqb kind LOG)
       where
         go :
             (a b d : Bool) →
             P (cond a (answering (acknowledged c t socket payload) consumed)
             (cond b (answering (applied c t socket payload) consumed) (cond d (accepting t consumed) (refusing t 19))))
-        go true b d = ack payload consumed
-        go false true d = values payload consumed
+        go true b d = ack payload g consumed
+        go false true d = values payload g consumed
         go false false true = none consumed
         go false false false = no 19
 
-    by-judgement : (j : Judgement) (message : List ℕ) → P (byJudgement c t socket j message)
-    by-judgement (packet.accepted kind n consumed) message = by-type kind (payloadIn message n) consumed
-    by-judgement (packet.refused number) message = no number
+    by-judgement : (j : Judgement) (message : List ℕ) → ((n : ℕ) → G (payloadIn message n)) → P (byJudgement c t socket j message)
+    by-judgement (packet.accepted kind n consumed) message g = by-type kind (payloadIn message n) (g n) consumed
+    by-judgement (packet.refused number) message g = no number
 
-    -- what holds of a refusal, of a packet that changes nothing, of an ACK and of DEVICE_DATA holds of all that is received
-    pub by-cases : (s : List ℕ) → P (receivedOf c t socket s)
+    -- what holds of a refusal, of a packet that changes nothing, and of an ACK and DEVICE_DATA with the packet's payload holds of
+    -- all that is received
+    pub by-payload : (s : List ℕ) → ((n : ℕ) → G (payloadIn (decoded s .message) n)) → P (receivedOf c t socket s)
     unfolding receivedOf
-    by-cases s = go (admitted c t socket)
+    by-payload s g = go (admitted c t socket)
       where
         go : (a : Answer) → P (receivedIf a t (byReading c t socket (decoded s)))
-        go Accepted = by-judgement (decoded s .judgement) (decoded s .message)
+        go Accepted = by-judgement (decoded s .judgement) (decoded s .message) g
         go (Refused n) = no n
 
-answering-table : (u : Update) (consumed : ℕ) → answering u consumed .table ≡ u .table
+-- the same where any payload will do
+by-cases :
+    (c : List ℕ) (t : Table) (socket : ℕ) (P : Receiving → Type 0) → ((number : ℕ) → P (refusing t number)) →
+    ((consumed : ℕ) → P (accepting t consumed)) →
+    ((payload : List ℕ) (consumed : ℕ) → P (answering (acknowledged c t socket payload) consumed)) →
+    ((payload : List ℕ) (consumed : ℕ) → P (answering (applied c t socket payload) consumed)) →
+    (s : List ℕ) → P (receivedOf c t socket s)
+by-cases c t socket P refuses accepts ack values s =
+    by-payload c t socket (λ payload. Unit {0}) P refuses accepts (λ payload g. ack payload) (λ payload g. values payload) s (λ n. tt)
+
+pub answering-table : (u : Update) (consumed : ℕ) → answering u consumed .table ≡ u .table
 answering-table u consumed = go (u .answer)
   where
     go : (a : Answer) → answeringBy a (u .table) consumed .table ≡ u .table
@@ -118,6 +132,27 @@ module _ (c : List ℕ) (t : Table) (socket : ℕ) where
   pub others-kept :
       (s : List ℕ) (j : ℕ) → slotAt t j .taken ≡ true → slotAt t j .socket ≢ socket → slotAt (receivedOf c t socket s .table) j ≡ slotAt t j
   others-kept s j u ne = slots-kept s j (not-its-place t socket j u ne)
+
+  -- LAW: each slot is exactly as it was, or has a row of the socket
+  pub slot-either :
+      (s : List ℕ) (j : ℕ) →
+      (slotAt (receivedOf c t socket s .table) j ≡ slotAt t j) ⊎ (slotAt (receivedOf c t socket s .table) j .socket ≡ socket)
+  slot-either s j =
+      by-cases c t socket
+      (λ r. (slotAt (r .table) j ≡ slotAt t j) ⊎ (slotAt (r .table) j .socket ≡ socket))
+      (λ k. inl refl)
+      (λ k. inl refl)
+      (λ payload n.
+      rw (answering-table (acknowledged c t socket payload) n)
+      (outcome-either t (placeFor t socket) (λ i. rowOf socket payload) (acknowledged c t socket payload) (ack-outcome c t socket payload)
+      (λ x. x .socket ≡ socket) (λ i e. refl) j))
+      (λ payload n.
+      rw (answering-table (applied c t socket payload) n)
+      (outcome-either t (slotOf t socket) (λ i. stored c payload (slotAt t i)) (applied c t socket payload) (data-outcome c t socket payload)
+      (λ x. x .socket ≡ socket)
+      (λ i e. data-same-device c payload (slotAt t i) .socket-same ∙ holds-parts (slotAt t i) socket (slot-found t socket i e .0) .1)
+      j))
+      s
 
   -- the table keeps the shape that its type says
   pub received-shaped : (s : List ℕ) → Shaped t → Shaped (receivedOf c t socket s .table)

@@ -1,4 +1,6 @@
 pub mod Judgements
 pub mod Keeps
 pub mod Packets
+pub mod Posted
+pub mod Reached
 pub mod Bench

@@ -6,17 +6,17 @@ use mathlib.Core.List.{List, [], _∷_}
 use mathlib.Core.Logic.{_⊎_, inl, inr, ⊎-elim}
 use native.Mathlib.Omega.{arith}
 use native.Mathlib.Nat.{eq-or-lt-of-le}
-use lib.Dec.{eqb}
-use borrow.Author.Tests.{eqb-true, eqb-false}
+use lib.ListN.{length}
 use Rattle.list.specs.Tree as tree
-use Rattle.list.specs.Tree.{Elements, none, value, list, int, vocab, float, str, blob}
-use Rattle.table.specs.Slots.{slotCount, socketCount, paramCount, slotAt, holds, slotOf}
+use Rattle.list.specs.Tree.{Elements, none, value, list, int, vocab, float, str, blob, count}
+use Rattle.table.specs.Slots.{slotCount, socketCount, paramCount, slotAt, slotOf}
 use Rattle.table.specs.Lawful.{presentAt, Lawful}
 use Rattle.table.specs.declared.Slot.{Slot}
 use Rattle.table.specs.declared.Table.{Table}
 use Rattle.table.specs.declared.Place.{Place}
 use Rattle.table.specs.declared.Place.the-variants.{At, Nowhere}
-use Rattle.table.proofs.Places.{holds-parts, holds-not, slot-found, slot-none}
+use Rattle.table.proofs.Places.{holds-parts, slot-found}
+use Rattle.table.proofs.Keeps.{own-slot}
 use Rattle.publish.specs.Published.{elementOf, heldValue, pair, listIf, parametersFrom, device, rowBefore, devicesFrom, published}
 
 -- WHAT IS SAID
@@ -98,22 +98,6 @@ devices-has (suc n) c t from socket i l m e =
     later Nowhere h = h
     later (At j) h = inr h
 
--- in a lawful table a socket's device is found in its own slot
-own-slot : (c : List ℕ) (t : Table) (i : ℕ) → Lawful c t → i < slotCount → slotAt t i .taken ≡ true → slotOf t (slotAt t i .socket) ≡ At i
-unfolding holds
-own-slot c t i h l u = go (slotOf t (slotAt t i .socket)) refl
-  where
-    same : (j : ℕ) (b : Bool) → eqb j i ≡ b → slotOf t (slotAt t i .socket) ≡ At j → At j ≡ At i
-    same j true e f = ap At (eqb-true j i e)
-    same j false e f =
-        let g = slot-found t (slotAt t i .socket) j f in
-        let p = holds-parts (slotAt t j) (slotAt t i .socket) (g .0) in
-        absurd (h .sockets-differ j i (g .1) l (eqb-false j i e) (p .0) u (p .1))
-
-    go : (p : Place) → slotOf t (slotAt t i .socket) ≡ p → p ≡ At i
-    go Nowhere e = absurd (holds-not (slotAt t i) (slotAt t i .socket) (slot-none t (slotAt t i .socket) e i l) u refl)
-    go (At j) e = same j (eqb j i) refl e
-
 -- LAW: "one row for each seated socket": every device has its row
 pub device-has-row : (c : List ℕ) (t : Table) (i : ℕ) → Lawful c t → i < slotCount → slotAt t i .taken ≡ true → Has (published c t) (device c (slotAt t i))
 device-has-row c t i h l u =
@@ -145,6 +129,18 @@ devices-only (suc n) c t socket row h = go (slotOf t socket) refl h (devices-onl
 -- LAW: and there is no other row
 pub row-is-device : (c : List ℕ) (t : Table) (row : Elements) → Has (published c t) row → RowOf c t row
 row-is-device c t row h = devices-only socketCount c t 0 row h
+
+-- LAW: nothing but rows stands in the published list
+pub rows-only : (n : ℕ) (c : List ℕ) (t : Table) (socket : ℕ) → length (firsts (devicesFrom n c t socket)) ≡ count (devicesFrom n c t socket)
+unfolding devicesFrom rowBefore
+rows-only zero c t socket = refl
+rows-only (suc n) c t socket = go (slotOf t socket) (rows-only n c t (socket + 1))
+  where
+    go :
+        (p : Place) → length (firsts (devicesFrom n c t (socket + 1))) ≡ count (devicesFrom n c t (socket + 1)) →
+        length (firsts (rowBefore c t p (devicesFrom n c t (socket + 1)))) ≡ count (rowBefore c t p (devicesFrom n c t (socket + 1)))
+    go Nowhere e = e
+    go (At i) e = ap suc e
 
 -- LAW: a device's row depends on its slot and the catalogue alone
 pub row-alone :
@@ -194,6 +190,19 @@ parameters-have (suc n) c s from p l m e =
         (pair p (elementOf (heldValue c s p)))
     later false h = h
     later true h = inr h
+
+-- LAW: nothing but lists of parameters stands behind the UID
+pub lists-only : (n : ℕ) (c : List ℕ) (s : Slot) (p : ℕ) → length (firsts (parametersFrom n c s p)) ≡ count (parametersFrom n c s p)
+unfolding parametersFrom
+lists-only zero c s p = refl
+lists-only (suc n) c s p = go (presentAt s p) (lists-only n c s (p + 1))
+  where
+    go :
+        (b : Bool) → length (firsts (parametersFrom n c s (p + 1))) ≡ count (parametersFrom n c s (p + 1)) →
+        length (firsts (listIf b (pair p (elementOf (heldValue c s p))) (parametersFrom n c s (p + 1)))) ≡
+        count (listIf b (pair p (elementOf (heldValue c s p))) (parametersFrom n c s (p + 1)))
+    go false e = e
+    go true e = ap suc e
 
 -- LAW: every held parameter has its list
 pub parameter-has-list :

@@ -4,14 +4,18 @@ use mathlib.Core.Path.{_≡_, refl, sym, ap, _∙_}
 use mathlib.Core.Bool.{Bool, true, false}
 use mathlib.Core.List.{List}
 use mathlib.Core.Logic.{⊎-elim, _≢_}
+use lib.Dec.{eqb}
 use lib.ListN.{length-replicate, getD-replicate}
+use borrow.Author.Tests.{eqb-true, eqb-false}
 use Rattle.catalogue.specs.Lookup.{deviceOf}
-use Rattle.table.specs.Slots.{slotCount, socketCount, paramCount, ShapedSlot, Shaped, freshSlot, emptySlot, emptyTable, noSlot, slotAt, withSlot}
+use Rattle.table.specs.Slots.{slotCount, socketCount, paramCount, ShapedSlot, Shaped, freshSlot, emptySlot, emptyTable, noSlot, slotAt, withSlot, holds, slotOf}
 use Rattle.table.specs.Lawful.{LawfulSlot, Lawful, lawful}
 use Rattle.table.specs.declared.Slot.{Slot}
 use Rattle.table.specs.declared.Table.{Table}
+use Rattle.table.specs.declared.Place.{Place}
+use Rattle.table.specs.declared.Place.the-variants.{At, Nowhere}
 use Rattle.table.proofs.Tests.{never}
-use Rattle.table.proofs.Places.{set-cases}
+use Rattle.table.proofs.Places.{holds-parts, holds-not, slot-found, slot-none, set-cases}
 use Rattle.table.proofs.Meaning.{means-lawful}
 
 -- two slots that are both taken differ in socket and UID
@@ -103,3 +107,19 @@ empty-table-shaped =
       all-slots = length-replicate slotCount emptySlot;
       slots-shaped = λ i l. rw (empty-at i l) (fresh-shaped false 0 0 0 0);
     }
+
+-- LAW: in a lawful table a socket's device is found in its own slot
+pub own-slot : (c : List ℕ) (t : Table) (i : ℕ) → Lawful c t → i < slotCount → slotAt t i .taken ≡ true → slotOf t (slotAt t i .socket) ≡ At i
+unfolding holds
+own-slot c t i h l u = go (slotOf t (slotAt t i .socket)) refl
+  where
+    same : (j : ℕ) (b : Bool) → eqb j i ≡ b → slotOf t (slotAt t i .socket) ≡ At j → At j ≡ At i
+    same j true e f = ap At (eqb-true j i e)
+    same j false e f =
+        let g = slot-found t (slotAt t i .socket) j f in
+        let p = holds-parts (slotAt t j) (slotAt t i .socket) (g .0) in
+        absurd (h .sockets-differ j i (g .1) l (eqb-false j i e) (p .0) u (p .1))
+
+    go : (p : Place) → slotOf t (slotAt t i .socket) ≡ p → p ≡ At i
+    go Nowhere e = absurd (holds-not (slotAt t i) (slotAt t i .socket) (slot-none t (slotAt t i .socket) e i l) u refl)
+    go (At j) e = same j (eqb j i) refl e

@@ -3,7 +3,7 @@ use Prim.Native.Nat.{ℕ, _<_}
 use mathlib.Core.Path.{_≡_, sym, ap, _∙_}
 use mathlib.Core.Bool.{true}
 use mathlib.Core.List.{List}
-use mathlib.Core.Logic.{_⊎_, ⊎-elim, _≢_}
+use mathlib.Core.Logic.{_⊎_, inl, inr, ⊎-elim, _≢_}
 use lib.ListN.{length-set}
 use Rattle.table.specs.Slots.{slotCount, noSlot, ShapedSlot, Shaped, slotAt, withSlot, refused, accepted}
 use Rattle.table.specs.Lawful.{LawfulSlot, lawful}
@@ -44,6 +44,22 @@ module _ (t : Table) (p : Place) (row : ℕ → Slot) (u : Update) (o : Outcome 
       (λ (x : Changed t p row u).
       rw (x .result) (other-slot t (x .index) j (row (x .index)) (λ e. ne (x .place ∙ ap At (sym e)))))
       (λ (x : Kept t u). rw (x .result))
+      o
+
+  -- LAW: each slot is as it was, or has the new row
+  pub outcome-either :
+      (Q : Slot → Type 0) → ((i : ℕ) → p ≡ At i → Q (row i)) → (j : ℕ) →
+      (slotAt (u .table) j ≡ slotAt t j) ⊎ Q (slotAt (u .table) j)
+  outcome-either Q h j =
+      ⊎-elim
+      (λ (x : Changed t p row u).
+      rw (x .result)
+      (⊎-elim
+      (λ (w : (j ≡ x .index) × (slotAt (withSlot t (x .index) (row (x .index))) j ≡ row (x .index))).
+      inr (rw (w .1) (h (x .index) (x .place))))
+      (λ (e : slotAt (withSlot t (x .index) (row (x .index))) j ≡ slotAt t j). inl e)
+      (set-cases (t .slots) (x .index) j (row (x .index)) noSlot)))
+      (λ (x : Kept t u). inl (ap (λ (v : Update). slotAt (v .table) j) (x .result)))
       o
 
   -- LAW: a refusal keeps the table

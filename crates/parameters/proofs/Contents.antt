@@ -1,0 +1,77 @@
+-- What one parameter reads as: the packet's value where DEVICE_DATA names it, else what it was, and absent in a new row.
+use Prim.Native.Nat.{ℕ, _<_}
+use mathlib.Core.Path.{_≡_, refl, ap, _∙_}
+use mathlib.Core.Bool.{Bool, true, false, cond, _&&_}
+use mathlib.Core.List.{List}
+use lib.Dec.{ltb}
+use lib.ListN.{getD-replicate}
+use borrow.Author.Tests.{lt-ltb, ltb-true}
+use Rattle.catalogue.specs.Lookup.{parameterOf}
+use Rattle.value.specs.Meaning.{valueOf}
+use Rattle.table.specs.Slots.{paramCount, ShapedSlot, freshSlot, slotAt, slotOf}
+use Rattle.table.specs.Lawful.{presentAt, bitsAt, admitted}
+use Rattle.table.specs.declared.Slot.{Slot}
+use Rattle.table.specs.declared.Table.{Table}
+use Rattle.table.specs.declared.Place.the-variants.{At}
+use Rattle.table.specs.declared.Answer.the-variants as answer
+use Rattle.parameters.specs.Data.{mapOf, named, valueIn, stored}
+use Rattle.parameters.specs.Read.{contentOf, readOf}
+use Rattle.parameters.specs.declared.Content.the-variants.{Held, Absent}
+use Rattle.parameters.specs.declared.Reading.the-variants.{Found}
+use Rattle.parameters.proofs.Values.{data-same-device, data-present, data-bits}
+
+module _ (c : List ℕ) (payload : List ℕ) (s : Slot) (h : ShapedSlot s) (p : ℕ) where
+  abbrev after : Slot
+  after = stored c payload s
+
+  present-as : (b : Bool) → p < paramCount → named (mapOf payload) p ≡ b → presentAt after p ≡ cond b true (presentAt s p)
+  present-as b l n = data-present c payload s h p l ∙ ap (λ (x : Bool). cond x true (presentAt s p)) n
+
+  bits-as :
+      (b : Bool) → p < paramCount → named (mapOf payload) p ≡ b →
+      bitsAt after p ≡ cond b (valueIn c (s .device) (mapOf payload) payload p) (bitsAt s p)
+  bits-as b l n =
+      data-bits c payload s h p l ∙
+      ap (λ (x : Bool). cond x (valueIn c (s .device) (mapOf payload) payload p) (bitsAt s p)) n
+
+  -- LAW: a parameter that the map names reads as the packet's value, by the catalogue's kind of it
+  pub named-reads :
+      p < paramCount → named (mapOf payload) p ≡ true →
+      contentOf c (stored c payload s) p ≡
+      Held (valueOf (parameterOf c (s .device) p .kind) (valueIn c (s .device) (mapOf payload) payload p))
+  unfolding contentOf
+  named-reads l n =
+      rw (lt-ltb p paramCount l, present-as true l n, bits-as true l n, data-same-device c payload s .device-same)
+
+  -- LAW: any other parameter reads as before
+  pub unnamed-reads : named (mapOf payload) p ≡ false → contentOf c (stored c payload s) p ≡ contentOf c s p
+  unfolding contentOf
+  unnamed-reads n = go (ltb p paramCount) refl
+    where
+      go :
+          (b : Bool) → ltb p paramCount ≡ b →
+          cond (b && presentAt after p) (Held (valueOf (parameterOf c (after .device) p .kind) (bitsAt after p))) Absent ≡
+          cond (b && presentAt s p) (Held (valueOf (parameterOf c (s .device) p .kind) (bitsAt s p))) Absent
+      go false e = refl
+      go true e =
+          let l = ltb-true p paramCount e in
+          rw (present-as false l n, bits-as false l n, data-same-device c payload s .device-same)
+
+-- LAW: a new row has no values
+pub fresh-reads :
+    (c : List ℕ) (taken : Bool) (socket device year uid p : ℕ) → contentOf c (freshSlot taken socket device year uid) p ≡ Absent
+unfolding contentOf
+fresh-reads c taken socket device year uid p = go (ltb p paramCount) refl
+  where
+    go :
+        (b : Bool) → ltb p paramCount ≡ b →
+        cond (b && presentAt (freshSlot taken socket device year uid) p) (Held (valueOf (parameterOf c device p .kind) (bitsAt (freshSlot taken socket device year uid) p))) Absent ≡ Absent
+    go false e = refl
+    go true e = rw (getD-replicate paramCount p false false (ltb-true p paramCount e))
+
+-- LAW: reading answers what the slot of the socket's device holds
+pub read-found :
+    (c : List ℕ) (t : Table) (socket i p : ℕ) → admitted c t socket ≡ answer.Accepted → slotOf t socket ≡ At i →
+    readOf c t socket p ≡ Found (contentOf c (slotAt t i) p)
+unfolding readOf
+read-found c t socket i p a e = rw (a, e)
