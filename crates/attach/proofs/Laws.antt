@@ -255,6 +255,14 @@ module _ (c : List ℕ) (t : Table) (socket : ℕ) (payload : List ℕ) where
       unfolding acknowledged assigned
       full-ack f e all = rw (a, eq-eqb (length payload) ackBytes n, k, f, e, none-free t all)
 
+-- the slot that an ACK is for is one of the table's
+pub place-within : (t : Table) (socket i : ℕ) → placeFor t socket ≡ At i → i < slotCount
+place-within t socket i = own (slotOf t socket) refl
+  where
+    own : (p : Place) → slotOf t socket ≡ p → orFree t p ≡ At i → i < slotCount
+    own (At k) e q = let w : k ≡ i = cc in rw (← w) (slot-found t socket k e .1)
+    own Nowhere e q = free-found t i q .1
+
 -- LAW: an ACK's UID is its last eight bytes, so these are what a list of the table says
 pub uid-bytes : (payload : List ℕ) → Bytes payload → length payload ≡ ackBytes → leBytes 8 (uidIn payload) ≡ drop 2 payload
 uid-bytes payload h n =

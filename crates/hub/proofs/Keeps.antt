@@ -25,7 +25,7 @@ use Rattle.parameters.proofs.Values.{data-same-device}
 use Rattle.parameters.proofs.Laws.{data-outcome, data-others, data-refused, data-lawful, data-shaped}
 use Rattle.hub.specs.Receive.{Outcome, accepted, refused, Receiving, refusing, accepting, answeringBy, answering, payloadIn, byType, byJudgement, byReading, receivedIf, receivedOf}
 
-abbrev isAccepted : Outcome → Bool
+abbrev pub isAccepted : Outcome → Bool
 isAccepted (accepted consumed) = true
 isAccepted (refused number) = false
 

@@ -1,6 +1,7 @@
 pub mod Judgements
 pub mod Keeps
 pub mod Packets
+pub mod Readings
 pub mod Posted
 pub mod Reached
 pub mod Bench

@@ -35,12 +35,8 @@ use Rattle.parameters.specs.Data.{mapOf, named, valueIn, stored, dataSized, app
 use Rattle.parameters.proofs.Values.{SameDevice, data-same-device, data-present, data-bits}
 use Rattle.parameters.proofs.Judged.{Judged, means-judged}
 use Rattle.parameters.proofs.Laws.{data-accepted, data-stores}
-use Rattle.hub.specs.Receive.{Outcome, accepted, refused, Receiving, refusing, accepting, answering, payloadIn, byType, byJudgement, byReading, receivedIf, receivedOf}
-use Rattle.hub.proofs.Keeps.{answering-accepted}
-
-abbrev isAccepted : Outcome → Bool
-isAccepted (accepted consumed) = true
-isAccepted (refused number) = false
+use Rattle.hub.specs.Receive.{accepted, refused, Receiving, refusing, accepting, answering, payloadIn, byType, byJudgement, byReading, receivedIf, receivedOf}
+use Rattle.hub.proofs.Keeps.{isAccepted, answering-accepted}
 
 -- the payload is found in the working copy of its message
 payload-in : (kind : ℕ) (payload : List ℕ) → payloadIn (copyOf (messageOf kind payload)) (length payload) ≡ payload

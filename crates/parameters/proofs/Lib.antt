@@ -5,4 +5,5 @@ pub mod Judged
 pub mod Laws
 pub mod Contents
 pub mod Ranges
+pub mod Payloads
 pub mod Bench
