@@ -45,13 +45,15 @@ totalCount s = numberAt 2 s (1 + 2 * typeCount s)
 abbrev pub parameterByte : List ℕ → ℕ → ℕ
 parameterByte s k = getD s (3 + 2 * typeCount s + k) 0
 
--- "0 INT, 1 FLOAT, 2 BOOL"
+-- "0 INT"
 abbrev pub kindInt : ℕ
 kindInt = 0
 
+-- "1 FLOAT"
 abbrev pub kindFloat : ℕ
 kindFloat = 1
 
+-- "2 BOOL"
 abbrev pub kindBool : ℕ
 kindBool = 2
 

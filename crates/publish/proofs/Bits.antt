@@ -16,10 +16,8 @@ use Rattle.value.specs.Meaning.{intOf, lowOf, infinity, valueOf}
 use Rattle.value.specs.declared.Value.the-variants.{Int, Float, Nan}
 use Rattle.value.specs.declared.Value.the-variants as variants
 use Rattle.value.proofs.Floats.{not-isnan}
+use Rattle.table.proofs.Tests.{never}
 use Rattle.publish.specs.Put.{NoNan}
-
-never : {A : Type 0} → false ≡ true → A
-never e = let z : _≡_ {A = ℕ} 0 1 = ap (λ (b : Bool). cond b 1 0) e in absurd (omega arith)
 
 small : (n : ℕ) → n < 2147483648 → toZ w32 n ≡ pos n
 small n h = rw (lt-ltb n 2147483648 h)
@@ -29,14 +27,14 @@ pub bits-up :
     (z : ℤ) → SFits w32 z → leZ (pos 0) (toZ w32 (ofZ w32 z)) ≡ true →
     T (nonNeg (toZ w32 (ofZ w32 z))) × Fits w32 (natAbs (toZ w32 (ofZ w32 z))) × (natAbs (toZ w32 (ofZ w32 z)) ≡ ofZ w32 z)
 bits-up (pos n) f h = rw (small n (f .sfits)) (tt, record { fits = omega (arith, f .sfits) }, refl)
-bits-up (negsuc n) f h = never (ap (leZ (pos 0)) (sym (toZ-ofZ f)) ∙ h)
+bits-up (negsuc n) f h = never (sym (ap (leZ (pos 0)) (sym (toZ-ofZ f)) ∙ h))
 
 -- a negative number's complement is not negative
 pub bits-down :
     (z : ℤ) → SFits w32 z → leZ (pos 0) (toZ w32 (ofZ w32 z)) ≡ false →
     T (nonNeg (toZ w32 (4294967295 - ofZ w32 z))) × Fits w32 (natAbs (toZ w32 (4294967295 - ofZ w32 z))) ×
     (natAbs (toZ w32 (4294967295 - ofZ w32 z)) ≤ 4294967295) × (4294967295 - natAbs (toZ w32 (4294967295 - ofZ w32 z)) ≡ ofZ w32 z)
-bits-down (pos n) f h = never (sym h ∙ ap (leZ (pos 0)) (small n (f .sfits)) ∙ le-leb 0 n (omega arith))
+bits-down (pos n) f h = never (sym (sym h ∙ ap (leZ (pos 0)) (small n (f .sfits)) ∙ le-leb 0 n (omega arith)))
 bits-down (negsuc n) f h =
     let e : 4294967295 - (2 ^ 32 - suc n) ≡ n = omega (arith, f .sfits) in
     rw (e, small n (f .sfits)) (tt, record { fits = omega (arith, f .sfits) }, omega (arith, f .sfits), omega (arith, f .sfits))

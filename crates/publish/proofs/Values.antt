@@ -2,7 +2,7 @@
 use Prim.Native.Nat.{ℕ, _+_, _*_, _%_, _≤_, _<_, _^_}
 use mathlib.Core.Path.{_≡_, refl, ap}
 use mathlib.Core.Bool.{Bool, true, false, cond}
-use mathlib.Core.Logic.{_⊎_, inl, inr, ⊎-elim}
+use mathlib.Core.Logic.{⊎-elim}
 use native.Mathlib.Omega.{arith}
 use native.Mathlib.Nat.{eq-or-lt-of-le}
 use lib.Dec.{eqb, ltb, leb}
@@ -17,6 +17,7 @@ use Rattle.list.specs.Legal.{LegalValue}
 use Rattle.catalogue.specs.Format.{kindInt, kindFloat, kindBool}
 use Rattle.value.specs.Meaning.{signOf, lowOf, infinity, valueOf, widened}
 use Rattle.value.specs.declared.Value.the-variants as values
+use Rattle.value.proofs.Floats.{infinities}
 use Rattle.publish.specs.Published.{double, elementOf}
 
 -- LAW: "INT .. become NetInt": the same 32 bits
@@ -35,10 +36,7 @@ flag-published bits h =
 
 infinite : (bits : ℕ) → bits < 2 ^ 32 → lowOf bits ≡ infinity → toBits binary64 (ofBits binary32 bits) ≡ widened bits
 unfolding ofBits toBits
-infinite bits l e = ⊎-elim (λ (q : bits ≡ 0x7f80_0000). rw q) (λ (q : bits ≡ 0xff80_0000). rw q) (either (signOf bits) (omega arith) refl)
-  where
-    either : (n : ℕ) → n < 2 → signOf bits ≡ n → (bits ≡ 0x7f80_0000) ⊎ (bits ≡ 0xff80_0000)
-    either n k q = ⊎-elim (λ (z : n ≡ 1). inr (omega arith)) (λ (z : n < 1). inl (omega arith)) (let g : n ≤ 1 = omega arith in eq-or-lt-of-le g)
+infinite bits l e = ⊎-elim (λ (q : bits ≡ 0x7f80_0000). rw q) (λ (q : bits ≡ 0xff80_0000). rw q) (infinities bits l e)
 
 -- LAW: "FLOAT becomes the double of exactly the same value, and infinities and NaNs keep the sign, their fraction moved 29 bits up"
 pub float-published : (bits : ℕ) → bits < 2 ^ 32 → elementOf (valueOf kindFloat bits) ≡ double (widened bits)

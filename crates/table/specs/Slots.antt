@@ -6,6 +6,7 @@ use mathlib.Core.Bool.{Bool, false, _&&_, cond}
 use mathlib.Core.List.{[]}
 use lib.Dec.{eqb}
 use lib.ListN.{length, getD, set, replicate}
+use Rattle.catalogue.specs.Format.{maxParameters}
 use Rattle.table.specs.declared.Slot.{Slot}
 use Rattle.table.specs.declared.Table.{Table}
 use Rattle.table.specs.declared.Place.{Place}
@@ -21,9 +22,9 @@ slotCount = 4
 abbrev pub socketCount : ℕ
 socketCount = 8
 
--- "each of 32 parameters"
+-- "each of 32 parameters", the catalogue's greatest number of them
 abbrev pub paramCount : ℕ
-paramCount = 32
+paramCount = maxParameters
 
 -- a row with no values held; absent values are zeros
 abbrev pub freshSlot : Bool → ℕ → ℕ → ℕ → ℕ → Slot

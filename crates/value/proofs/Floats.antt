@@ -32,12 +32,16 @@ pub special-widened :
     widened b ≡ signOf b * 0x8000_0000_0000_0000 + 0x7ff0_0000_0000_0000 + fractionOf b * 0x2000_0000
 special-widened b h = rw (le-ltb _ _ h)
 
-infinite : (b : ℕ) → b < 0x1_0000_0000 → lowOf b ≡ infinity → ofBits binary64 (widened b) ≡ ofBits binary32 b
-unfolding ofBits
-infinite b l e = ⊎-elim (λ (q : b ≡ 0x7f80_0000). rw q) (λ (q : b ≡ 0xff80_0000). rw q) (either (signOf b) (omega arith) refl)
+-- the bits of the two infinities
+pub infinities : (b : ℕ) → b < 0x1_0000_0000 → lowOf b ≡ infinity → (b ≡ 0x7f80_0000) ⊎ (b ≡ 0xff80_0000)
+infinities b l e = either (signOf b) (omega arith) refl
   where
     either : (n : ℕ) → n < 2 → signOf b ≡ n → (b ≡ 0x7f80_0000) ⊎ (b ≡ 0xff80_0000)
     either n k q = ⊎-elim (λ (z : n ≡ 1). inr (omega arith)) (λ (z : n < 1). inl (omega arith)) (let g : n ≤ 1 = omega arith in eq-or-lt-of-le g)
+
+infinite : (b : ℕ) → b < 0x1_0000_0000 → lowOf b ≡ infinity → ofBits binary64 (widened b) ≡ ofBits binary32 b
+unfolding ofBits
+infinite b l e = ⊎-elim (λ (q : b ≡ 0x7f80_0000). rw q) (λ (q : b ≡ 0xff80_0000). rw q) (infinities b l e)
 
 -- LAW: the double has exactly the single's value
 pub same-value : (b : ℕ) → b < 0x1_0000_0000 → lowOf b ≤ infinity → ofBits binary64 (widened b) ≡ ofBits binary32 b

@@ -30,7 +30,8 @@ fractionOf bits = bits % 0x80_0000
 abbrev pub infinity : ℕ
 infinity = 0x7f80_0000
 
--- "0 INT, 1 FLOAT, 2 BOOL": the value that 32 bits hold; a NaN is kept by its bits
+-- "0 INT, 1 FLOAT, 2 BOOL": the value that 32 bits hold; a NaN is kept by its bits. A kind above 2, which no legal catalogue
+-- has, is taken as BOOL.
 abbrev pub valueOf : ℕ → ℕ → Value
 valueOf kind bits =
     cond (eqb kind kindInt) (Int (intOf bits))
