@@ -7,7 +7,7 @@ use lib.ListN.{length, getD}
 use Rattle.wire.specs.Every.{every}
 use Rattle.wire.specs.Number.{numberAt}
 use Rattle.catalogue.specs.Lookup.{deviceOf}
-use Rattle.table.specs.Slots.{slotCount, freshSlot, emptySlot, slotAt, withSlot, slotOf, freeOf, refused, accepted}
+use Rattle.table.specs.Slots.{slotCount, freshSlot, emptySlot, slotAt, withSlot, slotOf, freeOf, refused, accepted, Effect, effectOf}
 use Rattle.table.specs.Lawful.{admitted, ifAdmitted}
 use Rattle.table.specs.declared.Slot.{Slot}
 use Rattle.table.specs.declared.Table.{Table}
@@ -78,3 +78,7 @@ emptied t Nowhere = refused t 15
 -- "Leaving: 11, 9, 10, 15"
 unfoldable pub detached : List ℕ → Table → ℕ → Update
 detached c t socket = ifAdmitted (admitted c t socket) t (emptied t (slotOf t socket))
+
+-- the same by the paper's numbers
+abbrev pub detaching : List ℕ → Table → ℕ → Effect
+detaching c t socket = effectOf (detached c t socket)

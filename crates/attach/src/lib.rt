@@ -5,8 +5,8 @@ use table::Slot;
 use table::Table;
 use table::Update;
 ghost use mathlib.Core.Path.{_≡_};
-ghost use Rattle.table.specs.Slots.{Within};
-ghost use Rattle.attach.specs.Attach.{uidElsewhere, uidFree, placeFor, placed, assigned, acknowledged, emptied, detached};
+ghost use Rattle.table.specs.Slots.{Within, effectOf};
+ghost use Rattle.attach.specs.Attach.{uidElsewhere, uidFree, placeFor, placed, assigned, acknowledged, emptied, detaching};
 
 // An ACK's payload: type, year and eight bytes of UID.
 const ACK_BYTES: usize = 10;
@@ -121,7 +121,7 @@ fn empty_place(t: Table, p: Place) -> Update
 
 // The device on a socket leaves: 11, 9, 10, 15, or its slot is empty.
 pub fn detach(c: &[u8], t: Table, socket: u8) -> Update
-    ensures { λ r. ⌜ r ≡ detached (now (c .entry)) t socket ⌝ }
+    ensures { λ r. ⌜ effectOf r ≡ detaching (now (c .entry)) t socket ⌝ }
 {
     let a = table::admit(c, t, socket);
     match a {

@@ -15,9 +15,7 @@ use Rattle.table.specs.declared.Table.{Table}
 use Rattle.table.specs.declared.Place.the-variants.{At}
 use Rattle.table.specs.declared.Answer.the-variants as answer
 use Rattle.parameters.specs.Data.{mapOf, named, valueIn, stored}
-use Rattle.parameters.specs.Read.{contentOf, readOf}
-use Rattle.parameters.specs.declared.Content.the-variants.{Held, Absent}
-use Rattle.parameters.specs.declared.Reading.the-variants.{Found}
+use Rattle.parameters.specs.Read.{held, absent, contentOf, readOf}
 use Rattle.parameters.proofs.Values.{data-same-device, data-present, data-bits}
 
 module _ (c : List ℕ) (payload : List ℕ) (s : Slot) (h : ShapedSlot s) (p : ℕ) where
@@ -38,7 +36,7 @@ module _ (c : List ℕ) (payload : List ℕ) (s : Slot) (h : ShapedSlot s) (p : 
   pub named-reads :
       p < paramCount → named (mapOf payload) p ≡ true →
       contentOf c (stored c payload s) p ≡
-      Held (valueOf (parameterOf c (s .device) p .kind) (valueIn c (s .device) (mapOf payload) payload p))
+      held (valueOf (parameterOf c (s .device) p .kind) (valueIn c (s .device) (mapOf payload) payload p))
   unfolding contentOf
   named-reads l n =
       rw (lt-ltb p paramCount l, present-as true l n, bits-as true l n, data-same-device c payload s .device-same)
@@ -50,8 +48,8 @@ module _ (c : List ℕ) (payload : List ℕ) (s : Slot) (h : ShapedSlot s) (p : 
     where
       go :
           (b : Bool) → ltb p paramCount ≡ b →
-          cond (b && presentAt after p) (Held (valueOf (parameterOf c (after .device) p .kind) (bitsAt after p))) Absent ≡
-          cond (b && presentAt s p) (Held (valueOf (parameterOf c (s .device) p .kind) (bitsAt s p))) Absent
+          cond (b && presentAt after p) (held (valueOf (parameterOf c (after .device) p .kind) (bitsAt after p))) absent ≡
+          cond (b && presentAt s p) (held (valueOf (parameterOf c (s .device) p .kind) (bitsAt s p))) absent
       go false e = refl
       go true e =
           let l = ltb-true p paramCount e in
@@ -59,19 +57,19 @@ module _ (c : List ℕ) (payload : List ℕ) (s : Slot) (h : ShapedSlot s) (p : 
 
 -- LAW: a new row has no values
 pub fresh-reads :
-    (c : List ℕ) (taken : Bool) (socket device year uid p : ℕ) → contentOf c (freshSlot taken socket device year uid) p ≡ Absent
+    (c : List ℕ) (taken : Bool) (socket device year uid p : ℕ) → contentOf c (freshSlot taken socket device year uid) p ≡ absent
 unfolding contentOf
 fresh-reads c taken socket device year uid p = go (ltb p paramCount) refl
   where
     go :
         (b : Bool) → ltb p paramCount ≡ b →
-        cond (b && presentAt (freshSlot taken socket device year uid) p) (Held (valueOf (parameterOf c device p .kind) (bitsAt (freshSlot taken socket device year uid) p))) Absent ≡ Absent
+        cond (b && presentAt (freshSlot taken socket device year uid) p) (held (valueOf (parameterOf c device p .kind) (bitsAt (freshSlot taken socket device year uid) p))) absent ≡ absent
     go false e = refl
     go true e = rw (getD-replicate paramCount p false false (ltb-true p paramCount e))
 
 -- LAW: reading answers what the slot of the socket's device holds
 pub read-found :
     (c : List ℕ) (t : Table) (socket i p : ℕ) → admitted c t socket ≡ answer.Accepted → slotOf t socket ≡ At i →
-    readOf c t socket p ≡ Found (contentOf c (slotAt t i) p)
+    readOf c t socket p ≡ contentOf c (slotAt t i) p
 unfolding readOf
 read-found c t socket i p a e = rw (a, e)

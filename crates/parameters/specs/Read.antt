@@ -5,6 +5,7 @@ use mathlib.Core.List.{List}
 use lib.Dec.{ltb}
 use Rattle.catalogue.specs.Lookup.{parameterOf}
 use Rattle.value.specs.Meaning.{valueOf}
+use Rattle.value.specs.declared.Value.{Value}
 use Rattle.table.specs.Slots.{paramCount, slotAt, slotOf}
 use Rattle.table.specs.Lawful.{presentAt, bitsAt, admitted}
 use Rattle.table.specs.declared.Slot.{Slot}
@@ -18,21 +19,37 @@ use Rattle.parameters.specs.declared.Content.the-variants.{Held, Absent}
 use Rattle.parameters.specs.declared.Reading.{Reading}
 use Rattle.parameters.specs.declared.Reading.the-variants.{Found, Refused}
 
+-- what reading one parameter finds: a value, none, or the number of the refusal
+pub data Finding : Type 0 where
+  held : (v : Value) → Finding
+  absent : Finding
+  refused : (number : ℕ) → Finding
+
+-- the value, or none, for each case of a content
+abbrev pub heldOf : Content → Finding
+heldOf (Held v) = held v
+heldOf Absent = absent
+
+-- the number or the value for each case of the answer
+abbrev pub findingOf : Reading → Finding
+findingOf (Found content) = heldOf content
+findingOf (Refused number) = refused number
+
 -- the held value by its parameter's kind; absent where none is held or there is no such parameter
-unfoldable pub contentOf : List ℕ → Slot → ℕ → Content
+unfoldable pub contentOf : List ℕ → Slot → ℕ → Finding
 contentOf c s index =
-    cond (ltb index paramCount && presentAt s index) (Held (valueOf (parameterOf c (s .device) index .kind) (bitsAt s index))) Absent
+    cond (ltb index paramCount && presentAt s index) (held (valueOf (parameterOf c (s .device) index .kind) (bitsAt s index))) absent
 
 -- 15, "socket has no guest"
-abbrev pub contentAt : List ℕ → Table → ℕ → Place → Reading
-contentAt c t index (At i) = Found (contentOf c (slotAt t i) index)
-contentAt c t index Nowhere = Refused 15
+abbrev pub contentAt : List ℕ → Table → ℕ → Place → Finding
+contentAt c t index (At i) = contentOf c (slotAt t i) index
+contentAt c t index Nowhere = refused 15
 
 -- 11, 9 and 10 come first
-abbrev pub readIf : Answer → Reading → Reading
+abbrev pub readIf : Answer → Finding → Finding
 readIf answer.Accepted r = r
-readIf (answer.Refused number) r = Refused number
+readIf (answer.Refused number) r = refused number
 
 -- one parameter of a socket's device, judged as leaving is: 11, 9, 10, 15
-unfoldable pub readOf : List ℕ → Table → ℕ → ℕ → Reading
+unfoldable pub readOf : List ℕ → Table → ℕ → ℕ → Finding
 readOf c t socket index = readIf (admitted c t socket) (contentAt c t index (slotOf t socket))

@@ -8,11 +8,11 @@ use table::Slot;
 use table::Table;
 ghost use mathlib.Core.Path.{_≡_};
 ghost use Rattle.table.specs.Slots.{Within};
-ghost use Rattle.parameters.specs.Read.{contentOf, contentAt, readOf};
+ghost use Rattle.parameters.specs.Read.{heldOf, findingOf, contentOf, contentAt, readOf};
 
 // What a slot holds of a parameter.
 pub fn read_slot(c: &[u8], s: Slot, index: usize) -> Content
-    ensures { λ r. ⌜ r ≡ contentOf (now (c .entry)) s index ⌝ }
+    ensures { λ r. ⌜ heldOf r ≡ contentOf (now (c .entry)) s index ⌝ }
 {
     if index < PARAMS {
         if s.present[index] {
@@ -26,7 +26,7 @@ pub fn read_slot(c: &[u8], s: Slot, index: usize) -> Content
 
 fn read_place(c: &[u8], t: Table, p: Place, index: usize) -> Reading
     requires { ⌜ Within p ⌝ }
-    ensures { λ r. ⌜ r ≡ contentAt (now (c .entry)) t index p ⌝ }
+    ensures { λ r. ⌜ findingOf r ≡ contentAt (now (c .entry)) t index p ⌝ }
 {
     match p {
         Place::At(i) => {
@@ -40,7 +40,7 @@ fn read_place(c: &[u8], t: Table, p: Place, index: usize) -> Reading
 
 // One parameter of the device on a socket: 11, 9, 10, 15, or its value or absent.
 pub fn read_parameter(c: &[u8], t: Table, socket: u8, index: usize) -> Reading
-    ensures { λ r. ⌜ r ≡ readOf (now (c .entry)) t socket index ⌝ }
+    ensures { λ r. ⌜ findingOf r ≡ readOf (now (c .entry)) t socket index ⌝ }
 {
     let a = table::admit(c, t, socket);
     match a {

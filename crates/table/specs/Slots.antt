@@ -11,6 +11,7 @@ use Rattle.table.specs.declared.Slot.{Slot}
 use Rattle.table.specs.declared.Table.{Table}
 use Rattle.table.specs.declared.Place.{Place}
 use Rattle.table.specs.declared.Place.the-variants.{At, Nowhere}
+use Rattle.table.specs.declared.Answer.{Answer}
 use Rattle.table.specs.declared.Answer.the-variants.{Accepted, Refused}
 use Rattle.table.specs.declared.Update.{Update}
 
@@ -103,3 +104,22 @@ refused t n = record { answer = Refused n; table = t }
 -- accepted, with the table afterwards
 abbrev pub accepted : Table → Update
 accepted t = record { answer = Accepted; table = t }
+
+-- what a call's answer says: accepted, or "Each refusal returns its number"
+pub data Verdict : Type 0 where
+  accepts : Verdict
+  refuses : (number : ℕ) → Verdict
+
+-- the number for each case of the answer
+abbrev pub verdictOf : Answer → Verdict
+verdictOf Accepted = accepts
+verdictOf (Refused number) = refuses number
+
+-- a verdict beside the table afterwards
+pub record Effect : Type 0 where
+  pub verdict : Verdict
+  pub table : Table
+
+-- what an update says
+abbrev pub effectOf : Update → Effect
+effectOf u = record { verdict = verdictOf (u .answer); table = u .table }

@@ -1,5 +1,7 @@
 -- `attach::detach` meets its contract, by what is judged first.
+use mathlib.Core.Path.{ap}
 use borrow.Author.Needs.{needs}
+use Rattle.table.specs.Slots.{effectOf}
 use Rattle.attach.specs.Attach.{detached}
 use Rattle.attach.proofs.detach.Statement.{statement}
 use Rattle.attach.proofs.detach.Tie as tie
@@ -29,11 +31,11 @@ returns c =
       ← c .before .before .before .before .admit .ensures,
       c .before .before .enum-told .given .1,
       ← c .before .find-slot .ensures .0,
-    ) (c .empty-place .ensures)
+    ) (ap effectOf (c .empty-place .ensures))
 
 returns-2 : tie.Need-returns-2
 unfolding detached
-returns-2 c = rw (← c .before .before .before .before .admit .ensures, c .before .before .a .given .1) (c .refuse .ensures)
+returns-2 c = rw (← c .before .before .before .before .admit .ensures, c .before .before .a .given .1) (ap effectOf (c .refuse .ensures))
 
 pub detach-spec : {M : Type 1} → statement M
 detach-spec =

@@ -1,8 +1,6 @@
 -- `parameters::read::read_place` meets its contract, by the place.
-use mathlib.Core.Path.{ap}
 use native.Mathlib.Omega.{arith}
 use borrow.Author.Needs.{needs}
-use Rattle.parameters.specs.declared.Reading.the-variants.{Found}
 use Rattle.parameters.proofs.read.read_place.Statement.{statement}
 use Rattle.parameters.proofs.read.read_place.Tie as tie
 
@@ -22,7 +20,7 @@ enum-told : tie.Need-enum-told
 enum-told c = search needs
 
 returns : tie.Need-returns
-returns c = rw (c .before .before .before .p .given .1) (ap Found (c .read-slot .ensures))
+returns c = rw (c .before .before .before .p .given .1) (c .read-slot .ensures)
 
 returns-2 : tie.Need-returns-2
 returns-2 c = rw (c .enum-told .given .1)

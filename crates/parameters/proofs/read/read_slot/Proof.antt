@@ -2,8 +2,7 @@
 use mathlib.Core.Path.{ap}
 use borrow.Author.Needs.{needs}
 use borrow.Author.Tests.{lt-ltb, le-ltb}
-use Rattle.parameters.specs.Read.{contentOf}
-use Rattle.parameters.specs.declared.Content.the-variants.{Held}
+use Rattle.parameters.specs.Read.{held, contentOf}
 use Rattle.parameters.proofs.read.read_slot.Statement.{statement}
 use Rattle.parameters.proofs.read.read_slot.Tie as tie
 
@@ -29,7 +28,7 @@ returns c =
       lt-ltb _ _ (c .before .before .before .before .before .if1 .taken),
       c .before .before .before .if2 .taken,
       ← c .before .before .find-parameter .ensures,
-    ) (ap Held (c .value-of .ensures))
+    ) (ap held (c .value-of .ensures))
 
 returns-2 : tie.Need-returns-2
 unfolding contentOf
