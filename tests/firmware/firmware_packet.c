@@ -174,8 +174,21 @@ static void check_types_and_lengths(void)
     }
 }
 
+/* "A pointer with length 0 may be null." */
+static void check_null(void)
+{
+    uint8_t *message = new_buffer(PACKET_ROOM);
+    cinder_packet_result answer = cinder_packet_decode(NULL, 0, message, PACKET_ROOM);
+    check(answer.error == 1 && answer.consumed == 0, "null bytes", "answer");
+    check(holds(message, PACKET_ROOM, NULL, 0), "null bytes", "message");
+    answer = cinder_packet_decode(NULL, 0, NULL, 0);
+    check(answer.error == 20 && answer.consumed == 0, "null areas", "answer");
+    free(message);
+}
+
 int main(void)
 {
+    check_null();
     check_table();
     check_types_and_lengths();
     check_whole_block();

@@ -151,8 +151,23 @@ static void check_limit(void)
     free(bytes);
 }
 
+/* "A pointer with length 0 may be null." */
+static void check_null(void)
+{
+    uint8_t *rows = new_buffer(CINDER_ROWS_ROOM);
+    uint8_t *store = new_buffer(CINDER_STORE_ROOM);
+    cinder_list_result answer = cinder_stream_next(NULL, 0, 0, rows, CINDER_ROWS_ROOM, store, CINDER_STORE_ROOM);
+    check(answer.error == 0 && answer.consumed == 0 && answer.rows == 0 && answer.offset == 0, "null bytes", "answer");
+    check(holds(rows, CINDER_ROWS_ROOM, NULL, 0) && holds(store, CINDER_STORE_ROOM, NULL, 0), "null bytes", "areas");
+    answer = cinder_stream_next(NULL, 0, 0, NULL, 0, NULL, 0);
+    check(answer.error == 20 && answer.consumed == 0 && answer.rows == 0 && answer.offset == 0, "null areas", "answer");
+    free(store);
+    free(rows);
+}
+
 int main(void)
 {
+    check_null();
     for (size_t at = 0; at < list_case_count; at++)
         check_behind_primes(&list_cases[at]);
     check_examples();
