@@ -55,7 +55,11 @@ pub fn case(name: &[u8], bytes: &[u8], used: usize) {
     show::text(name);
     let d = list_decode::decode(bytes, &mut rows, &mut store);
     match d {
-        Decoded::List { consumed, rows: n } => {
+        Decoded::List {
+            consumed,
+            rows: count,
+        } => {
+            let n = count as usize;
             show::number(b": bytes ", consumed);
             show::number(b" rows ", n);
             if n <= ROW_NUMBERS / 3 {

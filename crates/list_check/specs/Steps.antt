@@ -3,7 +3,7 @@ use Prim.Native.Nat.{ℕ, zero, suc, _+_, _^_, _≤_, _<_}
 use mathlib.Core.Path.{_≡_}
 use mathlib.Core.Bool.{true, cond}
 use mathlib.Core.List.{List}
-use lib.Dec.{eqb}
+use lib.Dec.{eqb, ltb}
 use Rattle.list.specs.declared.KindFound.{KindFound}
 use Rattle.list.specs.declared.KindFound.the-variants.{Is, Unknown}
 use Rattle.list.specs.Limits.{listLimit}
@@ -21,6 +21,10 @@ use Rattle.list_check.specs.Check.{checked}
 abbrev pub unless : {C : Type 0} → ℕ → (ℕ → C) → C → C
 unless zero stop go = go
 unless (suc fault) stop go = stop (suc fault)
+
+-- where an item must end: at the limit, or where the bytes end
+abbrev pub lastEnd : ℕ → ℕ
+lastEnd size = cond (ltb listLimit size) listLimit size
 
 -- an item of n bytes
 abbrev pub fixedAt : ℕ → List ℕ → ℕ → ℕ → Checked

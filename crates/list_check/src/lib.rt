@@ -13,7 +13,7 @@ ghost use Rattle.list.specs.Bytes.{common};
 ghost use Rattle.list.specs.Parse.{itemFault, word, closed, stringAt, blobAt, valueAt, typedAt, isListCode, listAt, finished, parse};
 ghost use Rattle.list.specs.Kind.{listCode, typedCode};
 ghost use Rattle.list_check.specs.Check.{checked};
-ghost use Rattle.list_check.specs.Steps.{fixedAt, countAt, headAt, headFrom, otherHead, closeOf, Within, WithinHead, Counted};
+ghost use Rattle.list_check.specs.Steps.{lastEnd, fixedAt, countAt, headAt, headFrom, otherHead, closeOf, Within, WithinHead, Counted};
 
 // The bytes of a number.
 pub const NUMBER: usize = 4;
@@ -34,18 +34,29 @@ enum Head {
     Fault(u8, usize),
 }
 
-// An item of n bytes: 28 where it would end beyond the limit, 21 where the bytes end inside it, else 0.
+// Where an item must end: at the limit, or where the bytes end.
+fn last_end(size: usize) -> usize
+    ensures { λ r. ⌜ r ≡ lastEnd size ⌝ }
+{
+    if LIST_LIMIT < size {
+        return LIST_LIMIT;
+    }
+    size
+}
+
+// An item of n bytes: 28 where it would end beyond the limit, 21 where the bytes end inside it, else 0. An item that fits
+// takes one comparison.
 fn fault(s: &[u8], at: usize, n: usize) -> u8
     requires { ⌜ (at ≤ 8192) × (n < 2 ^ 32) ⌝ }
     ensures { λ r. ⌜ r ≡ itemFault listLimit (now (s .entry)) at n ⌝ }
 {
+    if at + n <= last_end(s.len()) {
+        return 0;
+    }
     if LIST_LIMIT < at + n {
         return 28;
     }
-    if s.len() < at + n {
-        return 21;
-    }
-    0
+    21
 }
 
 // The number at an offset where its four bytes are there.
@@ -320,7 +331,9 @@ fn check_list(s: &[u8], at: usize, code: u32, depth: usize) -> Checked
                 seen = common_code(seen, kind);
             }
             Head::Inner(inner) => {
-                let c = check_list(s, pos, inner, depth - 1);
+                // A copy of the reference, so that the loop keeps its own in registers.
+                let bytes = s;
+                let c = check_list(bytes, pos, inner, depth - 1);
                 match c {
                     Checked::Bad(error, offset) => {
                         return Checked::Bad(error, offset);

@@ -262,6 +262,7 @@ pub record Stage (l : Layout) (s : List ℕ) (end : ℕ) (rows store : List ℕ)
   pub store-fits : length (elementStore (list (tree s) none)) ≤ listLimit
   pub store-room : listLimit ≤ length store
   pub near : end ≤ listLimit
+  pub few : elementCount (list (tree s) none) ≤ 1024
 
 bytes-all : (s : List ℕ) → ((i : ℕ) → getD s i 0 < 256) → Bytes s
 bytes-all [] h = tt
@@ -283,6 +284,7 @@ stage-start l s end rows store j all =
       store-fits = rw (is, append-nil) (store-bound listLimit t legal);
       store-room = j .storeRoom;
       near = reaches listLimit s t end (w .1) .0;
+      few = rw is few;
     }
 
 lay-rows : (l : Layout) (laid : Laid l) (used : ℕ) (es : Elements) → length (l .lay (elementRows used es)) ≡ l .width * elementCount es
@@ -496,6 +498,7 @@ module _ {l : Layout} (laid : Laid l) {s : List ℕ} {end : ℕ} {rows store : L
                 store-fits = st .store-fits;
                 store-room = st .store-room;
                 near = st .near;
+                few = st .few;
               }
 
   -- the whole list is written

@@ -72,7 +72,7 @@ fn put_run(
 }
 
 // The rows and the store bytes of the list of `end` bytes at the front; answers the number of rows.
-pub fn fill(s: &[u8], end: usize, rows: &mut [u32], store: &mut [u8]) -> usize
+pub fn fill(s: &[u8], end: usize, rows: &mut [u32], store: &mut [u8]) -> u32
     requires { ⌜ Judged numbers (now s) end (now rows) (now store) ⌝ }
     ensures { λ r. ⌜ Filled numbers (now (s .entry)) (now (rows .entry)) (now (store .entry)) r (now (rows .exit)) (now (store .exit)) ⌝ }
 {
@@ -95,5 +95,5 @@ pub fn fill(s: &[u8], end: usize, rows: &mut [u32], store: &mut [u8]) -> usize
         row = x.row;
         used = x.used;
     }
-    row / ROW
+    (row / ROW) as u32
 }

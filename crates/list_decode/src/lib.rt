@@ -13,7 +13,7 @@ ghost use Rattle.list_decode.specs.Packed.{decodePackedOf};
 
 // The list at the front: the bytes it takes and the rows it fills; or 01's number and the offset of the item at fault.
 pub enum Decoded {
-    List { consumed: usize, rows: usize },
+    List { consumed: usize, rows: u32 },
     Refused { error: u8, offset: usize },
 }
 

@@ -78,7 +78,7 @@ fn put_run(s: &[u8], x: Place, run: KindFound, n: usize, rows: &mut [u8], store:
 }
 
 // The rows and the store bytes of the list of `end` bytes at the front; answers the number of rows.
-pub fn fill(s: &[u8], end: usize, rows: &mut [u8], store: &mut [u8]) -> usize
+pub fn fill(s: &[u8], end: usize, rows: &mut [u8], store: &mut [u8]) -> u32
     requires { ⌜ Judged rowBytes (now s) end (now rows) (now store) ⌝ }
     ensures { λ r. ⌜ Filled rowBytes (now (s .entry)) (now (rows .entry)) (now (store .entry)) r (now (rows .exit)) (now (store .exit)) ⌝ }
 {
@@ -101,5 +101,5 @@ pub fn fill(s: &[u8], end: usize, rows: &mut [u8], store: &mut [u8]) -> usize
         row = x.row;
         used = x.used;
     }
-    row / ROW
+    (row / ROW) as u32
 }

@@ -53,7 +53,7 @@ fn stream_text(bytes: &[u8], rows: &mut [u32], store: &mut [u8], text: &mut [u8]
         let step = stream::next(bytes, offset, rows, store);
         match step {
             Step::List { consumed, rows: n } => {
-                used = list_line(text, used, k, consumed, n);
+                used = list_line(text, used, k, consumed, n as usize);
                 offset += consumed;
                 k += 1;
             }

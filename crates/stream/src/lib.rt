@@ -11,7 +11,7 @@ use list_decode::Decoded;
 
 // What a step answers. Offsets are counted from the front of the stream.
 pub enum Step {
-    List { consumed: usize, rows: usize },
+    List { consumed: usize, rows: u32 },
     End,
     Refused { error: u8, offset: usize },
 }

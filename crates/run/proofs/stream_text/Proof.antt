@@ -65,6 +65,9 @@ next-requires c κs = search needs
 enum-known-step : tie.Need-enum-known-step Inv-loop μ-loop
 enum-known-step c = search needs
 
+cast-list-line : tie.Need-cast-list-line Inv-loop μ-loop
+cast-list-line c = search needs
+
 list-line-requires : tie.Need-list-line-requires Inv-loop μ-loop
 list-line-requires c κs = search needs
 
@@ -149,6 +152,7 @@ stream-text-spec =
     loop-holds
     next-requires
     enum-known-step
+    cast-list-line
     list-line-requires
     add-offset
     add-k

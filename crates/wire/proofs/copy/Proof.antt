@@ -1,69 +1,75 @@
--- `wire::copy` meets its contract. The loop's invariant: the first i bytes of the buffer are those of the source.
-use Prim.Native.Nat.{ℕ, _+_, _-_, _≤_, _<_}
-use mathlib.Core.Path.{_≡_, refl, sym, _∙_}
-use mathlib.Core.List.{List}
-use native.Mathlib.Numerals.{add-one}
+-- `wire::copy` meets its contract: the array's front is the source, and the buffer becomes that front.
+use Prim.Native.Nat.{ℕ, _-_, _≤_}
+use mathlib.Core.Path.{_≡_, _∙_}
+use mathlib.Core.List.{List, _++_}
+use native.Mathlib.Numerals.{unary-clauses}
 use native.Mathlib.Omega.{arith}
-use lib.ListN.{length, take, set, getD, length-set}
-use lib.Seq.{take-suc, take-suc-set, take-all}
+use lib.ListN.{length, length-append}
+use lib.Seq.{take-append-seam}
 use borrow.Author.Needs.{needs}
+use borrow.Rule.Slice.PartMut.{midOf}
 use Rattle.wire.proofs.copy.Statement.{statement}
 use Rattle.wire.proofs.copy.Tie as tie
 
-step : (dst src : List ℕ) (i : ℕ) → i < length src → length dst ≡ length src → take i dst ≡ take i src → take (i + 1) (set dst i (getD src i 0)) ≡ take (i + 1) src
-step dst src i h l e = rw (add-one i, take-suc-set dst i (getD src i 0) (omega arith), take-suc src i 0 h, e)
+within : (xs ys src : List ℕ) → xs ≡ src → length src ≤ length (xs ++ ys)
+within xs ys src e = rw (e, length-append src ys) (omega arith)
 
-done : (dst src : List ℕ) (i : ℕ) → length src ≤ i → length dst ≡ length src → take i dst ≡ take i src → dst ≡ src
-done dst src i h l e = sym (take-all i dst (omega arith)) ∙ e ∙ take-all i src h
+front : (xs ys src : List ℕ) → xs ≡ src → midOf 0 (length src - 0) (xs ++ ys) ≡ src
+front xs ys src e = rw e (simp unary-clauses (take-append-seam src ys))
 
-abbrev Inv-loop : tie.InvT-loop
-Inv-loop dst₀ src i₀ dst i = (i ≤ length src) × (length dst ≡ length dst₀) × (take i dst ≡ take i src)
+copy-bytes-requires : tie.Need-copy-bytes-requires
+copy-bytes-requires c κs = search needs
 
-abbrev μ-loop : tie.MeasureT-loop
-μ-loop dst₀ src i₀ dst i = length src - i
+same-length : tie.Need-same-length
+same-length c = search needs
 
-loop-holds : tie.Need-loop-holds Inv-loop μ-loop
-loop-holds c = (omega arith, refl, refl)
+returns : tie.Need-returns
+returns c = search needs
 
-shared-slice-read-dst : tie.Need-shared-slice-read-dst Inv-loop μ-loop
-shared-slice-read-dst c = search needs
+sub-copy-bytes : tie.Need-sub-copy-bytes
+sub-copy-bytes c = search needs
 
-slice-write-dst : tie.Need-slice-write-dst Inv-loop μ-loop
-slice-write-dst c = search needs
+part-block-start : tie.Need-part-block-start
+part-block-start c = search needs
 
-add-i : tie.Need-add-i Inv-loop μ-loop
-add-i c = search needs
+part-block-end : tie.Need-part-block-end
+part-block-end c = search needs
 
-loop-less : tie.Need-loop-less Inv-loop μ-loop
-loop-less c = search needs
+copy-bytes-requires-2 : tie.Need-copy-bytes-requires-2
+copy-bytes-requires-2 c κs = search needs
 
-loop-again : tie.Need-loop-again Inv-loop μ-loop
-loop-again c =
-    let l = c .before .before in (
-      search needs,
-      simp length-set (l .loop .inv .1),
-      step _ (l .before .args .src .now) (l .loop .i) (search needs) (omega (arith, l .before .pre)) (l .loop .inv .2),
-    )
+sub-copy-bytes-2 : tie.Need-sub-copy-bytes-2
+sub-copy-bytes-2 c = search needs
 
-same-length : tie.Need-same-length Inv-loop μ-loop
-same-length c = c .before .loop .inv .1
+part-copy-bytes-start : tie.Need-part-copy-bytes-start
+part-copy-bytes-start c = search needs
 
-returns : tie.Need-returns Inv-loop μ-loop
-returns c =
-    let l = c .before in
-    done _ _ (l .loop .i) (c .loop-test .left) (l .loop .inv .1 ∙ l .before .pre) (l .loop .inv .2)
+part-copy-bytes-end : tie.Need-part-copy-bytes-end
+part-copy-bytes-end c = within _ _ _ (c .before .before .before .copy-bytes2 .ensures)
+
+copy-bytes-requires-3 : tie.Need-copy-bytes-requires-3
+copy-bytes-requires-3 c κs = search needs
+
+same-length-2 : tie.Need-same-length-2
+same-length-2 c = search needs
+
+returns-2 : tie.Need-returns-2
+returns-2 c = c .before .before .copy-bytes3 .ensures ∙ front _ _ _ (c .before .before .before .before .before .before .before .copy-bytes2 .ensures)
 
 pub copy-spec : {M : Type 1} → statement M
 copy-spec =
     tie.close
     (tie.spec
-    Inv-loop
-    μ-loop
-    loop-holds
-    shared-slice-read-dst
-    slice-write-dst
-    add-i
-    loop-less
-    loop-again
+    copy-bytes-requires
     same-length
-    returns)
+    returns
+    sub-copy-bytes
+    part-block-start
+    part-block-end
+    copy-bytes-requires-2
+    sub-copy-bytes-2
+    part-copy-bytes-start
+    part-copy-bytes-end
+    copy-bytes-requires-3
+    same-length-2
+    returns-2)

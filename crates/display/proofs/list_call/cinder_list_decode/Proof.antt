@@ -10,6 +10,9 @@ decode-packed-requires c κs = search needs
 enum-known-decoded : tie.Need-enum-known-decoded
 enum-known-decoded c = search needs
 
+cast-t15 : tie.Need-cast-t15
+cast-t15 c = search needs
+
 enum-known-decoded-2 : tie.Need-enum-known-decoded-2
 enum-known-decoded-2 c = search needs
 
@@ -40,6 +43,7 @@ cinder-list-decode-spec =
     (tie.spec
     decode-packed-requires
     enum-known-decoded
+    cast-t15
     enum-known-decoded-2
     cast-t16
     same-length

@@ -10,6 +10,9 @@ next-packed-requires c κs = search needs
 enum-known-step : tie.Need-enum-known-step
 enum-known-step c = search needs
 
+cast-t17 : tie.Need-cast-t17
+cast-t17 c = search needs
+
 enum-told : tie.Need-enum-told
 enum-told c = search needs
 
@@ -52,6 +55,7 @@ cinder-stream-next-spec =
     (tie.spec
     next-packed-requires
     enum-known-step
+    cast-t17
     enum-told
     enum-known-step-2
     cast-t18

@@ -46,6 +46,9 @@ loop-less c = omega (arith, stage-less laid-rows (c .before .before .before .bef
 loop-again : tie.Need-loop-again Inv-loop μ-loop
 loop-again c = stage-turn laid-rows (c .before .before .before .before .before .before .before .before .before .before .before .before .before .before .before .before .before .loop .inv) (c .before .before .before .before .before .before .before .before .before .before .before .before .before .before .before .before .loop-test .taken) (c .before .before .before .before .before .before .before .before .before .before .before .before .before .before .before .element .result) (c .before .before .before .before .before .before .before .before .before .before .before .before .before .before .before .element .ensures) _ _ (c .before .before .before .before .before .before .before .before .before .before .before .before .before .put-row .ensures) (c .before .before .before .before .before .before .before .before .before .put-bytes .ensures) (c .before .before .before .before .put-run .result) _ _ (c .before .before .before .before .put-run .ensures)
 
+cast-result : tie.Need-cast-result Inv-loop μ-loop
+cast-result c = omega (arith, stage-done laid-rows (c .before .loop .inv) (c .loop-test .left) .0, c .before .loop .inv .few)
+
 same-length : tie.Need-same-length Inv-loop μ-loop
 same-length c = c .before .loop .inv .rest .rows-length
 
@@ -72,6 +75,7 @@ fill-spec =
     put-run-requires
     loop-less
     loop-again
+    cast-result
     same-length
     same-length-2
     returns)
