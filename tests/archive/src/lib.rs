@@ -33,6 +33,7 @@ mod packet {
         ) -> PacketResult;
     }
 
+    #[inline]
     pub fn packet_decode(bytes: &[u8], message: &mut [u8]) -> PacketResult {
         // SAFETY: each pointer and length come from one slice.
         unsafe {
@@ -69,6 +70,7 @@ mod list {
         ) -> ListResult;
     }
 
+    #[inline]
     pub fn list_decode(bytes: &[u8], rows: &mut [u8], store: &mut [u8]) -> ListResult {
         // SAFETY: each pointer and length come from one slice.
         unsafe {
@@ -100,6 +102,7 @@ mod stream {
         ) -> ListResult;
     }
 
+    #[inline]
     pub fn stream_next(bytes: &[u8], offset: u64, rows: &mut [u8], store: &mut [u8]) -> ListResult {
         // SAFETY: each pointer and length come from one slice.
         unsafe {

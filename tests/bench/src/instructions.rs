@@ -1,5 +1,6 @@
 //! Instructions as callgrind counts them.
 
+use crate::cases::Side;
 use second_reader::generate::{list, replay};
 use second_reader::list::LIST_LIMIT;
 use second_reader::random::Random;
@@ -11,9 +12,13 @@ use std::process::{Command, ExitCode, Stdio};
 
 const TIMES: u64 = 50;
 
-/// Instructions for one call of the second reader and of the archive.
-pub fn of_case(name: &str) -> Result<(f64, f64), String> {
-    Ok((of_side(name, "reader")?, of_side(name, "archive")?))
+/// Instructions for one call of each side.
+pub fn of_case(name: &str) -> Result<[f64; 3], String> {
+    let mut counts = [0.0; 3];
+    for (count, side) in counts.iter_mut().zip(Side::ALL) {
+        *count = of_side(name, side.name())?;
+    }
+    Ok(counts)
 }
 
 fn of_side(name: &str, side: &str) -> Result<f64, String> {

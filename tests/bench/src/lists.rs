@@ -1,4 +1,4 @@
-//! The lists that are measured.
+//! The lists that are measured, and streams of them.
 
 use second_reader::generate::list::{image, Element};
 use Element::{Blob, Float, Int, List, String, Vocab};
@@ -32,6 +32,31 @@ pub fn all() -> Vec<(&'static str, Vec<u8>)> {
             bytes[4088..4092].copy_from_slice(&7_u32.to_le_bytes());
             bytes
         }),
+    ]
+}
+
+/// Streams of 8 lists each.
+#[cfg(feature = "stream")]
+pub fn streams() -> Vec<(&'static str, Vec<u8>)> {
+    let lists = all();
+    let list = |wanted: &str| {
+        let (_, bytes) = lists.iter().find(|(name, _)| *name == wanted).expect("a list of all()");
+        bytes.clone()
+    };
+    let different = [
+        "list-empty",
+        "list-two-lists",
+        "list-ints-full",
+        "list-strings-100",
+        "list-nested",
+        "list-blob-full",
+        "list-mixed-full",
+        "list-primes",
+    ];
+    vec![
+        ("stream-8-primes", list("list-primes").repeat(8)),
+        ("stream-8-different", different.map(list).concat()),
+        ("stream-8-published-full", list("list-published-full").repeat(8)),
     ]
 }
 

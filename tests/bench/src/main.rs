@@ -1,30 +1,32 @@
-//! Measures the archive's readers against the second reader on the same inputs in one
-//! run: time for each call, and instructions for each call as callgrind counts them.
-//! Buffers are not cleared between calls.
+//! Measures the archive's readers against the second reader and against plain C on the
+//! same inputs in one run: time for each call, and instructions for each call as
+//! callgrind counts them. For a stream, a call is the reading of all of it. Buffers are
+//! not cleared between calls.
 //!
 //!   bench                            all cases
 //!   bench --no-instructions          time only
-//!   bench --one CASE SIDE TIMES      just those calls, for callgrind; SIDE is archive
-//!                                    or reader
+//!   bench --one CASE SIDE TIMES      just those calls, for callgrind; SIDE is reader, C
+//!                                    or archive
 //!   bench --as run|replay            the second reader as that program, for callgrind
 
-#[cfg(not(any(feature = "packet", feature = "list")))]
-compile_error!("name the calls to measure: --features packet, list or both");
+#[cfg(not(any(feature = "packet", feature = "list", feature = "stream")))]
+compile_error!("name the calls to measure: --features packet, list, stream");
 
 mod cases;
 mod instructions;
-#[cfg(feature = "list")]
+#[cfg(any(feature = "list", feature = "stream"))]
 mod lists;
 #[cfg(feature = "packet")]
 mod packets;
+mod plain;
 
 use cases::{Case, Side};
 use std::process::ExitCode;
 use std::time::{Duration, Instant};
 
 /// Samples of each side, taken in turn; the fastest counts, as the least disturbed.
-const SAMPLES: usize = 25;
-const SAMPLE_TIME: Duration = Duration::from_millis(4);
+const SAMPLES: usize = 60;
+const SAMPLE_TIME: Duration = Duration::from_millis(2);
 
 fn main() -> ExitCode {
     let words: Vec<String> = std::env::args().skip(1).collect();
@@ -32,30 +34,32 @@ fn main() -> ExitCode {
     match words[..] {
         [] => table(true),
         ["--no-instructions"] => table(false),
-        ["--one", name, side, times] => return one(name, side, times),
-        ["--as", program] => return instructions::as_program(program),
+        ["--one", name, side, times] => one(name, side, times),
+        ["--as", program] => instructions::as_program(program),
         _ => {
             eprintln!("usage: bench [--no-instructions | --one CASE SIDE TIMES | --as PROGRAM]");
-            return ExitCode::from(2);
+            ExitCode::from(2)
         }
     }
-    ExitCode::SUCCESS
 }
 
-fn table(with_instructions: bool) {
-    println!(
-        "{:<24} {:>5}  {:>11} {:>11} {:>6}  {:>11} {:>11} {:>6}",
-        "case", "bytes", "reader ns", "archive ns", "ratio", "reader ins", "archive ins", "ratio"
-    );
+fn table(with_instructions: bool) -> ExitCode {
+    print!("{:<24} {:>5}", "case", "bytes");
+    headings("ns");
+    if with_instructions {
+        headings("ins");
+    }
+    println!();
     for mut case in cases::all() {
-        let (reader, archive) = time(&mut case);
-        print!("{:<24} {:>5}  ", case.name, case.bytes.len());
-        print!("{reader:>11.1} {archive:>11.1} {:>6.2}", archive / reader);
+        print!("{:<24} {:>5}", case.name, case.bytes.len());
+        if !case.sides_agree() {
+            println!("  the sides differ: nothing to measure");
+            return ExitCode::FAILURE;
+        }
+        figures(time(&mut case));
         if with_instructions {
             match instructions::of_case(case.name) {
-                Ok((reader, archive)) => {
-                    print!("  {reader:>11.1} {archive:>11.1} {:>6.2}", archive / reader)
-                }
+                Ok(counts) => figures(counts),
                 Err(message) => print!("  {message}"),
             }
         }
@@ -64,19 +68,31 @@ fn table(with_instructions: bool) {
     if with_instructions {
         instructions::of_programs();
     }
+    ExitCode::SUCCESS
 }
 
-/// Nanoseconds for one call of the second reader and of the archive.
-fn time(case: &mut Case) -> (f64, f64) {
-    let reader_calls = calls_for_a_sample(case, Side::Reader);
-    let archive_calls = calls_for_a_sample(case, Side::Archive);
-    let mut reader = f64::MAX;
-    let mut archive = f64::MAX;
+fn headings(unit: &str) {
+    print!(" ");
+    Side::ALL.iter().for_each(|side| print!(" {:>11}", format!("{} {unit}", side.name())));
+    print!(" {:>8} {:>6}", "/reader", "/C");
+}
+
+/// The three sides, and the archive's ratios to the other two.
+fn figures([reader, plain, archive]: [f64; 3]) {
+    print!("  {reader:>11.1} {plain:>11.1} {archive:>11.1}");
+    print!(" {:>8.2} {:>6.2}", archive / reader, archive / plain);
+}
+
+/// Nanoseconds for one call of each side.
+fn time(case: &mut Case) -> [f64; 3] {
+    let calls = Side::ALL.map(|side| calls_for_a_sample(case, side));
+    let mut fastest = [f64::MAX; 3];
     for _ in 0..SAMPLES {
-        reader = reader.min(sample(case, Side::Reader, reader_calls));
-        archive = archive.min(sample(case, Side::Archive, archive_calls));
+        for (at, side) in Side::ALL.into_iter().enumerate() {
+            fastest[at] = fastest[at].min(sample(case, side, calls[at]));
+        }
     }
-    (reader, archive)
+    fastest
 }
 
 /// How many calls take about the time of one sample.

@@ -86,6 +86,14 @@ pub struct Decoded {
     pub rows: usize,
 }
 
+/// Error, bytes consumed, rows and offset, as the C call answers them.
+pub fn numbers(answer: Result<Decoded, ListError>) -> [u64; 4] {
+    match answer {
+        Ok(Decoded { consumed, rows }) => [0, consumed as u64, rows as u64, 0],
+        Err(ListError { error, offset }) => [error.number(), 0, 0, offset],
+    }
+}
+
 /// Reads the list at the front of `bytes`: its rows, 12 bytes each, to the front of
 /// `rows` and its string and blob bytes to the front of `store`.
 pub fn decode(bytes: &[u8], rows: &mut [u8], store: &mut [u8]) -> Result<Decoded, ListError> {

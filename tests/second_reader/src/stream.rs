@@ -14,6 +14,14 @@ pub enum Step {
     List(Decoded),
 }
 
+/// The step's numbers as the C call answers them: at the end all are 0.
+pub fn numbers(step: Result<Step, ListError>) -> [u64; 4] {
+    list::numbers(step.map(|step| match step {
+        Step::End => Decoded { consumed: 0, rows: 0 },
+        Step::List(decoded) => decoded,
+    }))
+}
+
 /// Reads the list at `offset`; offsets of errors count from the stream's front. At
 /// the stream's end nothing is written.
 pub fn next(

@@ -47,18 +47,10 @@ mod for_lists {
     use super::{describe, patterned};
     use crate::report::{hex, Difference};
     use archive::ListResult;
-    use second_reader::list::{Decoded, ListError};
 
-    /// The second reader's answer in the form of the C calls for lists.
-    pub fn list_answer(answer: Result<Decoded, ListError>) -> ListResult {
-        match answer {
-            Ok(Decoded { consumed, rows }) => {
-                ListResult { error: 0, consumed: consumed as u64, rows: rows as u64, offset: 0 }
-            }
-            Err(ListError { error, offset }) => {
-                ListResult { error: error.number(), consumed: 0, rows: 0, offset }
-            }
-        }
+    /// The four numbers of an answer in the form of the C calls for lists.
+    pub fn list_answer([error, consumed, rows, offset]: [u64; 4]) -> ListResult {
+        ListResult { error, consumed, rows, offset }
     }
 
     /// The two buffers lent to a call for lists.

@@ -4,7 +4,7 @@ use crate::buffers::{exact, list_answer, ListBuffers};
 use crate::report::{count_answer, Difference, Section};
 use archive::list_decode;
 use second_reader::generate::{buffer_length, list};
-use second_reader::list::{decode, ROWS_ROOM, STORE_ROOM};
+use second_reader::list::{decode, numbers, ROWS_ROOM, STORE_ROOM};
 use second_reader::random::Random;
 
 pub const SECTION: Section =
@@ -14,8 +14,8 @@ fn check(bytes: Vec<u8>, rows: usize, store: usize, pattern: u64) -> Result<(), 
     let bytes = exact(bytes);
     let mut expected_buffers = ListBuffers::new(rows, store, pattern);
     let mut found_buffers = ListBuffers::new(rows, store, pattern);
-    let expected =
-        list_answer(decode(&bytes, &mut expected_buffers.rows, &mut expected_buffers.store));
+    let answer = decode(&bytes, &mut expected_buffers.rows, &mut expected_buffers.store);
+    let expected = list_answer(numbers(answer));
     let found = list_decode(&bytes, &mut found_buffers.rows, &mut found_buffers.store);
     count_answer(expected.error);
     if expected == found && expected_buffers == found_buffers {

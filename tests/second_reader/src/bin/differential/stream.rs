@@ -3,11 +3,11 @@
 
 use crate::buffers::{exact, list_answer, ListBuffers};
 use crate::report::{count_answer, Difference, Section};
-use archive::{stream_next, ListResult};
+use archive::stream_next;
 use second_reader::generate::{buffer_length, stream as generate};
-use second_reader::list::{Decoded, ListError, ROWS_ROOM, STORE_ROOM};
+use second_reader::list::{ROWS_ROOM, STORE_ROOM};
 use second_reader::random::Random;
-use second_reader::stream::{next, Step};
+use second_reader::stream::{next, numbers};
 
 pub const SECTION: Section =
     Section { name: "stream", progress: 5_000, enumerated, random: random_case };
@@ -15,14 +15,6 @@ pub const SECTION: Section =
 /// Steps of one series at most, and how many of them may consume nothing.
 const STEPS: u64 = 40;
 const IDLE_STEPS: u64 = 5;
-
-/// The second reader's answer in the form of the C call.
-fn expected_answer(step: Result<Step, ListError>) -> ListResult {
-    list_answer(step.map(|step| match step {
-        Step::End => Decoded { consumed: 0, rows: 0 },
-        Step::List(decoded) => decoded,
-    }))
-}
 
 /// One step; answers the bytes consumed.
 fn check(
@@ -34,7 +26,7 @@ fn check(
     let mut expected_buffers = ListBuffers::new(rows, store, pattern);
     let mut found_buffers = ListBuffers::new(rows, store, pattern);
     let step = next(bytes, offset, &mut expected_buffers.rows, &mut expected_buffers.store);
-    let expected = expected_answer(step);
+    let expected = list_answer(numbers(step));
     let found = stream_next(bytes, offset, &mut found_buffers.rows, &mut found_buffers.store);
     count_answer(expected.error);
     if expected == found && expected_buffers == found_buffers {
