@@ -1,13 +1,15 @@
 //! Instructions as callgrind counts them.
 
 use crate::cases::Side;
+use crate::hub;
+use crate::programs::{self, Input};
 use second_reader::generate::{list, replay};
 use second_reader::list::LIST_LIMIT;
 use second_reader::random::Random;
 use second_reader::replay::replay_output;
 use second_reader::stream::{run_output, RUN_LIMIT};
 use std::io::Read;
-use std::path::{Path, PathBuf};
+use std::path::Path;
 use std::process::{Command, ExitCode, Stdio};
 
 const TIMES: u64 = 50;
@@ -54,17 +56,10 @@ pub fn as_program(name: &str) -> ExitCode {
     match name {
         "run" => print!("{}", run_output(&input)),
         "replay" => print!("{}", replay_output(&input)),
+        "hub" => print!("{}", hub::output(&input)),
         _ => return ExitCode::from(2),
     }
     ExitCode::SUCCESS
-}
-
-/// The folder of the programs, as the comparison of answers finds it.
-fn programs() -> PathBuf {
-    match std::env::var_os("CINDER_BIN_DIR") {
-        Some(named) => PathBuf::from(named),
-        None => Path::new(env!("CARGO_MANIFEST_DIR")).join("../../target/bin"),
-    }
 }
 
 /// The programs on one long input each, less what they take on the shortest one.
@@ -81,16 +76,15 @@ pub fn of_programs() {
 }
 
 fn of_program(name: &str, long: &[u8], short: &[u8]) {
-    let program = programs().join(name);
+    let program = programs::folder().join(name);
     if !program.is_file() {
         println!("{name:<24} {:>5}  not built", long.len());
         return;
     }
     let counted = || -> Result<(f64, f64), String> {
         let reader = std::env::current_exe().map_err(|error| error.to_string())?;
-        let reader =
-            |input: &[u8]| on_input(Command::new("valgrind"), &reader, &["--as", name], input);
-        let product = |input: &[u8]| on_input(Command::new("valgrind"), &program, &[], input);
+        let reader = |input: &[u8]| of_process(&reader, &["--as", name], input);
+        let product = |input: &[u8]| of_process(&program, &[], input);
         Ok((reader(long)? - reader(short)?, product(long)? - product(short)?))
     };
     match counted() {
@@ -103,23 +97,14 @@ fn of_program(name: &str, long: &[u8], short: &[u8]) {
     }
 }
 
-/// The instructions of a whole process on this standard input, which goes by a file.
-fn on_input(
-    mut valgrind: Command,
-    program: &Path,
-    words: &[&str],
-    input: &[u8],
-) -> Result<f64, String> {
-    let name = format!("bench-input-{}", std::process::id());
-    let file = std::env::temp_dir().join(name);
-    let text = |error: std::io::Error| error.to_string();
-    std::fs::write(&file, input).map_err(text)?;
+/// The instructions of a whole process on this standard input.
+pub fn of_process(program: &Path, words: &[&str], input: &[u8]) -> Result<f64, String> {
+    let input = Input::new(input)?;
+    let mut valgrind = Command::new("valgrind");
     valgrind
         .args(["--tool=callgrind", "--callgrind-out-file=/dev/null"])
         .arg(program)
         .args(words)
-        .stdin(std::fs::File::open(&file).map_err(text)?);
-    let count = collected(&mut valgrind);
-    std::fs::remove_file(&file).map_err(text)?;
-    Ok(count? as f64)
+        .stdin(input.stdin()?);
+    Ok(collected(&mut valgrind)? as f64)
 }

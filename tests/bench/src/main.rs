@@ -7,18 +7,21 @@
 //!   bench --no-instructions          time only
 //!   bench --one CASE SIDE TIMES      just those calls, for callgrind; SIDE is reader, C
 //!                                    or archive
-//!   bench --as run|replay            the second reader as that program, for callgrind
+//!   bench --hub                      the hub's calls only
+//!   bench --as run|replay|hub        the second reader as that program; hub is bench_hub
 
 #[cfg(not(any(feature = "packet", feature = "list", feature = "stream")))]
 compile_error!("name the calls to measure: --features packet, list, stream");
 
 mod cases;
+mod hub;
 mod instructions;
 #[cfg(any(feature = "list", feature = "stream"))]
 mod lists;
 #[cfg(feature = "packet")]
 mod packets;
 mod plain;
+mod programs;
 
 use cases::{Case, Side};
 use std::process::ExitCode;
@@ -35,9 +38,13 @@ fn main() -> ExitCode {
         [] => table(true),
         ["--no-instructions"] => table(false),
         ["--one", name, side, times] => one(name, side, times),
+        ["--hub"] if hub::table(true) => ExitCode::SUCCESS,
+        ["--hub"] => ExitCode::FAILURE,
         ["--as", program] => instructions::as_program(program),
         _ => {
-            eprintln!("usage: bench [--no-instructions | --one CASE SIDE TIMES | --as PROGRAM]");
+            eprintln!(
+                "usage: bench [--no-instructions | --hub | --one CASE SIDE TIMES | --as PROGRAM]"
+            );
             ExitCode::from(2)
         }
     }
@@ -65,10 +72,15 @@ fn table(with_instructions: bool) -> ExitCode {
         }
         println!();
     }
+    let hub_measured = hub::table(with_instructions);
     if with_instructions {
         instructions::of_programs();
     }
-    ExitCode::SUCCESS
+    if hub_measured {
+        ExitCode::SUCCESS
+    } else {
+        ExitCode::FAILURE
+    }
 }
 
 fn headings(unit: &str) {
