@@ -1,6 +1,6 @@
 /*
- * Reads a list in two passes: the first judges all of it, the second fills the rows and
- * the store.
+ * Reads a list in two passes, element by element: the first judges all of it, the second
+ * fills the rows and the store.
  */
 #include "plain.h"
 
@@ -27,243 +27,185 @@ enum {
     BEYOND_LIMIT = 28
 };
 
-static inline uint32_t word_at(const uint8_t *at)
+static uint32_t word_at(const uint8_t *at)
 {
     uint32_t word;
     memcpy(&word, at, WORD);
     return word;
 }
 
-static inline int32_t signed_at(const uint8_t *at)
+static bool is_kind(uint32_t code)
 {
-    return (int32_t)word_at(at);
+    return code == INT || code == STRING || code == VOCAB || code == FLOAT || code == BLOB;
 }
 
-static inline bool is_list_code(uint32_t code)
+static bool is_list_code(uint32_t code)
 {
-    switch (code) {
-    case LIST:
-    case LIST + INT:
-    case LIST + STRING:
-    case LIST + VOCAB:
-    case LIST + FLOAT:
-    case LIST + BLOB:
-        return true;
-    default:
-        return false;
-    }
+    return code == LIST || (code > LIST && is_kind(code - LIST));
 }
 
-/* The bytes as far as a list may reach, and the first fault once one is found. */
+/* The bytes, how far they were judged, and the first fault once one is found. */
 struct judge {
-    const uint8_t *front, *end;
-    const uint8_t *fault;
+    const uint8_t *bytes;
+    size_t length;
+    size_t at;
     unsigned error;
+    size_t fault;
 };
 
-/* Every part of the judge answers where the next item begins, or NULL after a fault. */
-static const uint8_t *refuse(struct judge *judge, unsigned error, const uint8_t *at)
+static bool refuse(struct judge *judge, unsigned error, size_t at)
 {
     judge->error = error;
     judge->fault = at;
-    return NULL;
+    return false;
 }
 
-/* The item at `at` does not fit: the limit comes before the end of the bytes. */
-static const uint8_t *refuse_cut(struct judge *judge, const uint8_t *at, size_t size)
+/* Whether the next item has all its bytes. */
+static bool have(struct judge *judge, size_t size)
 {
-    size_t end = (size_t)(at - judge->front) + size;
-    return refuse(judge, end > LIST_LIMIT ? BEYOND_LIMIT : BYTES_END, at);
+    if (judge->at + size > LIST_LIMIT)
+        return refuse(judge, BEYOND_LIMIT, judge->at);
+    if (judge->at + size > judge->length)
+        return refuse(judge, BYTES_END, judge->at);
+    return true;
 }
 
-static inline bool fits(const struct judge *judge, const uint8_t *at, size_t size)
+static bool judge_fixed(struct judge *judge, size_t size)
 {
-    return (size_t)(judge->end - at) >= size;
+    if (!have(judge, size))
+        return false;
+    judge->at += size;
+    return true;
 }
 
-static inline const uint8_t *judge_item(struct judge *judge, const uint8_t *at, size_t size)
+static bool judge_bytes(struct judge *judge, uint32_t kind)
 {
-    return fits(judge, at, size) ? at + size : refuse_cut(judge, at, size);
+    if (!have(judge, WORD))
+        return false;
+    int32_t length = (int32_t)word_at(judge->bytes + judge->at);
+    if (length < (kind == STRING ? 1 : 0))
+        return refuse(judge, BAD_STRING_OR_BLOB, judge->at);
+    judge->at += WORD;
+    if (!have(judge, (size_t)length))
+        return false;
+    const uint8_t *first = judge->bytes + judge->at;
+    if (kind == STRING && memchr(first, 0, (size_t)length) != first + length - 1)
+        return refuse(judge, BAD_STRING_OR_BLOB, judge->at);
+    judge->at += (size_t)length;
+    return true;
 }
 
-/* So many elements of one size. */
-static inline const uint8_t *judge_fixed(struct judge *judge, const uint8_t *at,
-                                         size_t count, size_t size)
+static bool judge_value(struct judge *judge, uint32_t kind)
 {
-    size_t fitting = (size_t)(judge->end - at) / size;
-    if (count > fitting)
-        return refuse_cut(judge, at + fitting * size, size);
-    return at + count * size;
-}
-
-static inline const uint8_t *judge_string(struct judge *judge, const uint8_t *at)
-{
-    if (!fits(judge, at, WORD))
-        return refuse_cut(judge, at, WORD);
-    int32_t length = signed_at(at);
-    if (length < 1)
-        return refuse(judge, BAD_STRING_OR_BLOB, at);
-    at += WORD;
-    if (!fits(judge, at, (size_t)length))
-        return refuse_cut(judge, at, (size_t)length);
-    if (memchr(at, 0, (size_t)length) != at + length - 1)
-        return refuse(judge, BAD_STRING_OR_BLOB, at);
-    return at + length;
-}
-
-static inline const uint8_t *judge_blob(struct judge *judge, const uint8_t *at)
-{
-    if (!fits(judge, at, WORD))
-        return refuse_cut(judge, at, WORD);
-    int32_t length = signed_at(at);
-    if (length < 0)
-        return refuse(judge, BAD_STRING_OR_BLOB, at);
-    return judge_item(judge, at + WORD, (size_t)length);
-}
-
-static const uint8_t *judge_list(struct judge *judge, const uint8_t *code_at, unsigned depth);
-
-/* The elements of a 256 list, each behind its code. */
-static const uint8_t *judge_untyped(struct judge *judge, const uint8_t *at, int32_t count,
-                                    const uint8_t *list_at, unsigned depth)
-{
-    uint32_t first = 0;
-    bool one_kind = count > 0;
-    for (int32_t number = 0; number < count; number++) {
-        if (!fits(judge, at, WORD))
-            return refuse_cut(judge, at, WORD);
-        uint32_t code = word_at(at);
-        if (number == 0)
-            first = code;
-        one_kind &= code == first;
-        switch (code) {
-        case INT:
-        case VOCAB:
-            at = judge_item(judge, at + WORD, WORD);
-            break;
-        case FLOAT:
-            at = judge_item(judge, at + WORD, 2 * WORD);
-            break;
-        case STRING:
-            at = judge_string(judge, at + WORD);
-            break;
-        case BLOB:
-            at = judge_blob(judge, at + WORD);
-            break;
-        default:
-            if (!is_list_code(code))
-                return refuse(judge, UNKNOWN_CODE, at);
-            if (depth == DEPTH_LIMIT)
-                return refuse(judge, TOO_DEEP, at);
-            one_kind = false;
-            at = judge_list(judge, at, depth + 1);
-        }
-        if (at == NULL)
-            return NULL;
-    }
-    if (one_kind)
-        return refuse(judge, WRONG_LIST_CODE, list_at);
-    return at;
-}
-
-/* The list whose code stands at `code_at` and is a list code. */
-static const uint8_t *judge_list(struct judge *judge, const uint8_t *code_at, unsigned depth)
-{
-    uint32_t code = word_at(code_at);
-    const uint8_t *at = code_at + WORD;
-    if (!fits(judge, at, WORD))
-        return refuse_cut(judge, at, WORD);
-    int32_t count = signed_at(at);
-    if (count < 0)
-        return refuse(judge, COUNT_BELOW_0, at);
-    at += WORD;
-    if (code == LIST)
-        return judge_untyped(judge, at, count, code_at, depth);
-    if (count == 0)
-        return refuse(judge, WRONG_LIST_CODE, code_at);
-    switch (code - LIST) {
+    switch (kind) {
+    case INT:
+    case VOCAB:
+        return judge_fixed(judge, WORD);
     case FLOAT:
-        return judge_fixed(judge, at, (size_t)count, 2 * WORD);
-    case STRING:
-        while (count-- > 0 && at != NULL)
-            at = judge_string(judge, at);
-        return at;
-    case BLOB:
-        while (count-- > 0 && at != NULL)
-            at = judge_blob(judge, at);
-        return at;
+        return judge_fixed(judge, 2 * WORD);
     default:
-        return judge_fixed(judge, at, (size_t)count, WORD);
+        return judge_bytes(judge, kind);
     }
 }
 
-static const uint8_t *judge_outermost(struct judge *judge)
-{
-    if (!fits(judge, judge->front, WORD))
-        return refuse_cut(judge, judge->front, WORD);
-    if (!is_list_code(word_at(judge->front)))
-        return refuse(judge, NOT_A_LIST, judge->front);
-    return judge_list(judge, judge->front, 1);
-}
+static bool judge_list(struct judge *judge, unsigned depth);
 
-static inline uint8_t *put_row(uint8_t *row, uint32_t code, uint32_t second, uint32_t third)
+/* An element behind its code; `seen` becomes the code that the elements have in common. */
+static bool judge_element(struct judge *judge, unsigned depth, uint32_t *seen)
 {
-    memcpy(row, &code, WORD);
-    memcpy(row + WORD, &second, WORD);
-    memcpy(row + 2 * WORD, &third, WORD);
-    return row + ROW;
-}
-
-/*
- * Only 256 lists hold lists, and each of their elements follows its code. So a judged
- * list is one series of items with codes, whatever the depth; a typed list is one item.
- * Answers the end of the rows.
- */
-static uint8_t *fill(const uint8_t *at, const uint8_t *end, uint8_t *row, uint8_t *store)
-{
-    uint32_t used = 0;
-    while (at < end) {
-        uint32_t code = word_at(at);
-        uint32_t kind = code;
-        uint32_t count = 1;
-        at += WORD;
-        if (code >= LIST) {
-            count = word_at(at);
-            kind = code - LIST;
-            row = put_row(row, LIST, count, 0);
-            at += WORD;
-        }
-        switch (kind) {
-        case INT:
-        case VOCAB:
-            for (uint32_t number = 0; number < count; number++, at += WORD)
-                row = put_row(row, kind, word_at(at), 0);
-            break;
-        case FLOAT:
-            for (uint32_t number = 0; number < count; number++, at += 2 * WORD)
-                row = put_row(row, FLOAT, word_at(at), word_at(at + WORD));
-            break;
-        case STRING:
-            for (uint32_t number = 0; number < count; number++) {
-                uint32_t length = word_at(at) - 1;
-                row = put_row(row, STRING, used, length);
-                memcpy(store + used, at + WORD, length);
-                used += length;
-                at += WORD + length + 1;
-            }
-            break;
-        case BLOB:
-            for (uint32_t number = 0; number < count; number++) {
-                uint32_t length = word_at(at);
-                row = put_row(row, BLOB, used, length);
-                memcpy(store + used, at + WORD, length);
-                used += length;
-                at += WORD + length;
-            }
-            break;
-        }
+    if (!have(judge, WORD))
+        return false;
+    uint32_t code = word_at(judge->bytes + judge->at);
+    if (is_kind(code)) {
+        *seen = *seen == 0 || *seen == code ? code : LIST;
+        judge->at += WORD;
+        return judge_value(judge, code);
     }
-    return row;
+    if (!is_list_code(code))
+        return refuse(judge, UNKNOWN_CODE, judge->at);
+    *seen = LIST;
+    return judge_list(judge, depth + 1);
+}
+
+/* The list whose code was seen to be a list's. */
+static bool judge_list(struct judge *judge, unsigned depth)
+{
+    size_t front = judge->at;
+    if (depth > DEPTH_LIMIT)
+        return refuse(judge, TOO_DEEP, front);
+    uint32_t code = word_at(judge->bytes + front);
+    judge->at += WORD;
+    if (!have(judge, WORD))
+        return false;
+    int32_t count = (int32_t)word_at(judge->bytes + judge->at);
+    if (count < 0)
+        return refuse(judge, COUNT_BELOW_0, judge->at);
+    judge->at += WORD;
+    uint32_t seen = 0;
+    for (int32_t number = 0; number < count; number++) {
+        if (!(code == LIST ? judge_element(judge, depth, &seen) : judge_value(judge, code - LIST)))
+            return false;
+    }
+    bool one_kind = seen != 0 && seen != LIST;
+    if (code == LIST ? one_kind : count == 0)
+        return refuse(judge, WRONG_LIST_CODE, front);
+    return true;
+}
+
+/* Where the next element stands, and the next row; the bytes of the store in use. */
+struct filler {
+    const uint8_t *at;
+    uint8_t *row, *store;
+    uint32_t used;
+};
+
+static void put_row(struct filler *filler, uint32_t code, uint32_t second, uint32_t third)
+{
+    memcpy(filler->row, &code, WORD);
+    memcpy(filler->row + WORD, &second, WORD);
+    memcpy(filler->row + 2 * WORD, &third, WORD);
+    filler->row += ROW;
+}
+
+static void fill_value(struct filler *filler, uint32_t kind)
+{
+    uint32_t first = word_at(filler->at);
+    filler->at += WORD;
+    switch (kind) {
+    case INT:
+    case VOCAB:
+        put_row(filler, kind, first, 0);
+        break;
+    case FLOAT:
+        put_row(filler, kind, first, word_at(filler->at));
+        filler->at += WORD;
+        break;
+    default: {
+        uint32_t length = kind == STRING ? first - 1 : first;
+        put_row(filler, kind, filler->used, length);
+        memcpy(filler->store + filler->used, filler->at, length);
+        filler->used += length;
+        filler->at += first;
+    }
+    }
+}
+
+static void fill_list(struct filler *filler)
+{
+    uint32_t code = word_at(filler->at);
+    uint32_t count = word_at(filler->at + WORD);
+    filler->at += 2 * WORD;
+    put_row(filler, LIST, count, 0);
+    for (uint32_t number = 0; number < count; number++) {
+        uint32_t kind = code == LIST ? word_at(filler->at) : code - LIST;
+        if (kind >= LIST) {
+            fill_list(filler);
+            continue;
+        }
+        if (code == LIST)
+            filler->at += WORD;
+        fill_value(filler, kind);
+    }
 }
 
 static cinder_list_result refused(uint64_t error, uint64_t offset)
@@ -272,18 +214,21 @@ static cinder_list_result refused(uint64_t error, uint64_t offset)
 }
 
 /* `bytes` from `offset` on; offsets of errors count from the front of `bytes`. */
-static inline cinder_list_result decode_at(const uint8_t *bytes, size_t bytes_len, size_t offset,
-                                           uint8_t *rows, uint8_t *store)
+static cinder_list_result decode_at(const uint8_t *bytes, size_t bytes_len, size_t offset,
+                                    uint8_t *rows, uint8_t *store)
 {
-    size_t reach = bytes_len - offset < LIST_LIMIT ? bytes_len - offset : LIST_LIMIT;
-    struct judge judge = {.front = bytes + offset, .end = bytes + offset + reach};
-    const uint8_t *end = judge_outermost(&judge);
-    if (end == NULL)
-        return refused(judge.error, (uint64_t)(judge.fault - bytes));
-    uint8_t *rows_end = fill(judge.front, end, rows, store);
+    struct judge judge = {.bytes = bytes + offset, .length = bytes_len - offset};
+    if (!have(&judge, WORD))
+        return refused(judge.error, offset);
+    if (!is_list_code(word_at(judge.bytes)))
+        return refused(NOT_A_LIST, offset);
+    if (!judge_list(&judge, 1))
+        return refused(judge.error, offset + judge.fault);
+    struct filler filler = {.at = judge.bytes, .row = rows, .store = store};
+    fill_list(&filler);
     return (cinder_list_result){
-        .consumed = (uint64_t)(end - judge.front),
-        .rows = (uint64_t)(rows_end - rows) / ROW,
+        .consumed = judge.at,
+        .rows = (uint64_t)(filler.row - rows) / ROW,
     };
 }
 
