@@ -72,7 +72,7 @@ fn assign(c: &[u8], t: Table, socket: u8, payload: &[u8]) -> Update
 {
     let device = wire::byte_at(payload, 0);
     let year = wire::byte_at(payload, 1);
-    let uid = wire::u64_at(payload, 2);
+    let uid = numbers::u64_at(payload, 2);
     let d = catalogue::find_device(c, device);
     if d.known {
         if is_uid_free(t, socket, uid) {

@@ -76,7 +76,7 @@ pub fn case(name: &[u8], bytes: &[u8], used: usize) {
 
 fn put_number(buffer: &mut [u8], i: usize, x: u32) {
     if i < NUMBERS {
-        wire::put_u32(buffer, 4 * i, x);
+        numbers::put_u32(buffer, 4 * i, x);
     }
 }
 
@@ -117,7 +117,7 @@ fn put_string(buffer: &mut [u8], at: usize, s: &[u8]) {
     if LIST_LIMIT < s.len() {
         return;
     }
-    wire::put_u32(buffer, at, s.len() as u32);
+    numbers::put_u32(buffer, at, s.len() as u32);
     wire::copy_at(buffer, at + 4, s);
 }
 
@@ -139,10 +139,10 @@ fn nested() {
     let mut buffer = [0u8; 72];
     wire::copy_at(&mut buffer, 0, &four);
     wire::copy_at(&mut buffer, 32, &four);
-    wire::put_u32(&mut buffer, 60, 0);
+    numbers::put_u32(&mut buffer, 60, 0);
     case(b"Eight nested lists", &buffer[0..64], 0);
-    wire::put_u32(&mut buffer, 60, 1);
-    wire::put_u32(&mut buffer, 64, 256);
+    numbers::put_u32(&mut buffer, 60, 1);
+    numbers::put_u32(&mut buffer, 64, 256);
     case(b"Nine nested lists", &buffer, 0);
 }
 

@@ -21,7 +21,7 @@ pub fn table_of(catalogue: &[u8], records: &[u8]) -> Table {
     let mut t = hub::empty_table();
     let mut at: usize = 0;
     while at < records.len() {
-        let size = FRONT + wire::u16_at(&records[at..], 1) as usize;
+        let size = FRONT + numbers::u16_at(&records[at..], 1) as usize;
         if records.len() - at < size {
             return t;
         }

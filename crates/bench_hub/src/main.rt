@@ -20,13 +20,13 @@ fn main() {
 }
 
 fn run(input: &[u8]) {
-    let records = HEADER + wire::u16_at(input, 5) as usize;
-    let call = records + wire::u16_at(input, 7) as usize;
+    let records = HEADER + numbers::u16_at(input, 5) as usize;
+    let call = records + numbers::u16_at(input, 7) as usize;
     if input.len() < call {
         return;
     }
     let t = fill::table_of(&input[HEADER..records], &input[records..call]);
-    let times = wire::u32_at(input, 1);
+    let times = numbers::u32_at(input, 1);
     let tally = again::call(
         wire::byte_at(input, 0),
         times,

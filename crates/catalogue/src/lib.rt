@@ -123,7 +123,7 @@ pub fn is_legal(s: &[u8]) -> bool
         return false;
     }
     let m = parameters_before(s, n);
-    if wire::u16_at(s, 1 + 2 * n) as usize != m {
+    if numbers::u16_at(s, 1 + 2 * n) as usize != m {
         return false;
     }
     let parameters = are_legal_parameters(s, 3 + 2 * n, m);

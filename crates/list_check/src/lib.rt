@@ -64,7 +64,7 @@ fn word_at(s: &[u8], at: usize) -> u32
     requires { ⌜ at + 4 ≤ length (now s) ⌝ }
     ensures { λ r. ⌜ r ≡ word (now (s .entry)) at ⌝ }
 {
-    wire::join32(s[at], s[at + 1], s[at + 2], s[at + 3])
+    numbers::join32(s[at], s[at + 1], s[at + 2], s[at + 3])
 }
 
 // Is the last byte of a string's bytes the only zero.

@@ -22,7 +22,7 @@ fn put_number(rows: &mut [u8], at: usize, x: u32)
     requires { ⌜ at + 4 ≤ length (now rows) ⌝ }
     ensures { λ _. ⌜ now (rows .exit) ≡ sets (now (rows .entry)) at (leBytes 4 x) ⌝ }
 {
-    let b = wire::bytes32(x);
+    let b = numbers::bytes32(x);
     rows[at] = b[0];
     rows[at + 1] = b[1];
     rows[at + 2] = b[2];

@@ -37,10 +37,10 @@ fn value_at(kind: u8, payload: &[u8], at: usize) -> u32
     ensures { λ r. ⌜ r ≡ numberAt (width kind) (now (payload .entry)) at ⌝ }
 {
     if kind == catalogue::INT {
-        return wire::u32_at(payload, at);
+        return numbers::u32_at(payload, at);
     }
     if kind == catalogue::FLOAT {
-        return wire::u32_at(payload, at);
+        return numbers::u32_at(payload, at);
     }
     wire::byte_at(payload, at) as u32
 }
@@ -133,7 +133,7 @@ fn are_flags(c: &[u8], device: u8, map: u32, payload: &[u8]) -> bool
 fn judge(c: &[u8], device: u8, payload: &[u8]) -> Answer
     ensures { λ r. ⌜ r ≡ judged (now (c .entry)) device (now (payload .entry)) ⌝ }
 {
-    let map = wire::u32_at(payload, 0);
+    let map = numbers::u32_at(payload, 0);
     if are_readable(c, device, map) {
         if size_of(c, device, map) == payload.len() {
             if are_flags(c, device, map, payload) {
@@ -193,7 +193,7 @@ fn apply_at(c: &[u8], t: Table, i: usize, payload: &[u8]) -> Update
     let a = judge(c, s.device, payload);
     match a {
         Answer::Accepted => {
-            let map = wire::u32_at(payload, 0);
+            let map = numbers::u32_at(payload, 0);
             let n = store(c, s.device, map, payload, s);
             let mut u = t;
             u.slots[i] = n;

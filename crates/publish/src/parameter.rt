@@ -44,7 +44,7 @@ fn put_number(buffer: &mut [u8], at: usize, x: u32)
     requires { ⌜ at + 4 ≤ length (now buffer) ⌝ }
     ensures { λ _. ⌜ now (buffer .exit) ≡ sets (now (buffer .entry)) at (number x) ⌝ }
 {
-    wire::put_u32(buffer, at, x);
+    numbers::put_u32(buffer, at, x);
 }
 
 pub fn put_two(buffer: &mut [u8], at: usize, x: u32, y: u32)

@@ -68,7 +68,7 @@ fn put_uid(buffer: &mut [u8], at: usize, uid: u64)
     ensures { λ _. ⌜ now (buffer .exit) ≡ sets (now (buffer .entry)) at (number (codeOf Blob) ++ (number 8 ++ leBytes 8 uid)) ⌝ }
 {
     put_two(buffer, at, Kind::BLOB, UID_BYTES);
-    wire::put_u64(buffer, at + 8, uid);
+    numbers::put_u64(buffer, at + 8, uid);
 }
 
 // A device's row up to its parameters, of which `held` follow.

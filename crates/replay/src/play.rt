@@ -173,7 +173,7 @@ fn play_all(catalogue: &[u8], records: &[u8], out: &mut [u8]) {
 
 // Replays an input: the catalogue behind its two-byte length, then records. Where the catalogue is cut short there are none.
 pub fn replay(input: &[u8]) {
-    let n = wire::u16_at(input, 0) as usize;
+    let n = numbers::u16_at(input, 0) as usize;
     if input.len() < n + 2 {
         return;
     }

@@ -22,7 +22,7 @@ pub fn size_of(s: &[u8]) -> usize
     ensures { λ r. ⌜ r ≡ recordSize (now (s .entry)) ⌝ }
 {
     match wire::byte_at(s, 0) {
-        RECEIVE => 4 + wire::u16_at(s, 2) as usize,
+        RECEIVE => 4 + numbers::u16_at(s, 2) as usize,
         DETACH => 2,
         PUBLISH => 1,
         READ => 3,

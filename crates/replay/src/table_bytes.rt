@@ -30,7 +30,7 @@ fn put_bits(out: &mut [u8], used: usize, s: Slot) -> usize {
     let mut at = used;
     let mut p: usize = 0;
     while p < hub::PARAMS {
-        let b = wire::bytes32(s.bits[p]);
+        let b = numbers::bytes32(s.bits[p]);
         at = line::put_bytes(&mut *out, at, &b);
         p += 1;
     }
@@ -40,7 +40,7 @@ fn put_bits(out: &mut [u8], used: usize, s: Slot) -> usize {
 fn put_slot(out: &mut [u8], used: usize, s: Slot) -> usize {
     let front = [flag_byte(s.taken), s.socket, s.device, s.year];
     let at = line::put_bytes(&mut *out, used, &front);
-    let uid = wire::bytes64(s.uid);
+    let uid = numbers::bytes64(s.uid);
     let behind_uid = line::put_bytes(&mut *out, at, &uid);
     let behind_presence = put_presence(&mut *out, behind_uid, s);
     put_bits(&mut *out, behind_presence, s)
@@ -105,7 +105,7 @@ fn bits_in(bytes: &[u8], at: usize) -> [u32; hub::PARAMS]
     let mut bits = [0u32; hub::PARAMS];
     let mut p: usize = 0;
     while p < hub::PARAMS {
-        bits[p] = wire::u32_at(bytes, at + BITS + 4 * p);
+        bits[p] = numbers::u32_at(bytes, at + BITS + 4 * p);
         p += 1;
     }
     bits
@@ -121,7 +121,7 @@ fn slot_in(bytes: &[u8], at: usize) -> Slot
         socket: wire::byte_at(bytes, at + 1),
         device: wire::byte_at(bytes, at + 2),
         year: wire::byte_at(bytes, at + 3),
-        uid: wire::u64_at(bytes, at + 4),
+        uid: numbers::u64_at(bytes, at + 4),
         present,
         bits,
     }

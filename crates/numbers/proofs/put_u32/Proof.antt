@@ -1,7 +1,7 @@
--- `wire::put_u32` meets its contract: its bytes are copied.
+-- `numbers::put_u32` meets its contract: its bytes are copied.
 use borrow.Author.Needs.{needs}
-use Rattle.wire.proofs.put_u32.Statement.{statement}
-use Rattle.wire.proofs.put_u32.Tie as tie
+use Rattle.numbers.proofs.put_u32.Statement.{statement}
+use Rattle.numbers.proofs.put_u32.Tie as tie
 
 bytes32-requires : tie.Need-bytes32-requires
 bytes32-requires c κs = search needs

@@ -1,10 +1,10 @@
--- `wire::u16_at` meets its contract, by the number's bytes one at a time.
+-- `numbers::u16_at` meets its contract, by the number's bytes one at a time.
 use mathlib.Core.Path.{sym}
 use native.Mathlib.Omega.{arith}
 use borrow.Author.Needs.{needs}
 use Rattle.wire.proofs.Numbers.{number-past, number-2}
-use Rattle.wire.proofs.u16_at.Statement.{statement}
-use Rattle.wire.proofs.u16_at.Tie as tie
+use Rattle.numbers.proofs.u16_at.Statement.{statement}
+use Rattle.numbers.proofs.u16_at.Tie as tie
 
 returns : tie.Need-returns
 returns c = sym (number-past 2 (c .before .before .args .s .now) (c .before .before .args .at) (c .if1 .taken))

@@ -1,11 +1,11 @@
--- `wire::u64_at` meets its contract, by the number's two halves.
+-- `numbers::u64_at` meets its contract, by the number's two halves.
 use Prim.Native.Nat.{_+_}
 use mathlib.Core.Path.{sym}
 use native.Mathlib.Omega.{arith}
 use borrow.Author.Needs.{needs}
 use Rattle.wire.proofs.Numbers.{number-past, number-8}
-use Rattle.wire.proofs.u64_at.Statement.{statement}
-use Rattle.wire.proofs.u64_at.Tie as tie
+use Rattle.numbers.proofs.u64_at.Statement.{statement}
+use Rattle.numbers.proofs.u64_at.Tie as tie
 
 returns : tie.Need-returns
 returns c = sym (number-past 8 (c .before .before .args .s .now) (c .before .before .args .at) (c .if1 .taken))

@@ -1,12 +1,12 @@
--- `wire::u32_at` meets its contract, by the number's bytes one at a time.
+-- `numbers::u32_at` meets its contract, by the number's bytes one at a time.
 use Prim.Native.Nat.{_+_}
 use mathlib.Core.Path.{_≡_, sym}
 use native.Mathlib.Omega.{arith}
 use lib.ListN.{getD, List·getD-eq-default}
 use borrow.Author.Needs.{needs}
 use Rattle.wire.proofs.Numbers.{number-past, number-4}
-use Rattle.wire.proofs.u32_at.Statement.{statement}
-use Rattle.wire.proofs.u32_at.Tie as tie
+use Rattle.numbers.proofs.u32_at.Statement.{statement}
+use Rattle.numbers.proofs.u32_at.Tie as tie
 
 returns : tie.Need-returns
 returns c = sym (number-past 4 (c .before .before .args .s .now) (c .before .before .args .at) (c .if1 .taken))

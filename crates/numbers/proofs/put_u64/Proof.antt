@@ -1,7 +1,7 @@
--- `wire::put_u64` meets its contract: its bytes are copied.
+-- `numbers::put_u64` meets its contract: its bytes are copied.
 use borrow.Author.Needs.{needs}
-use Rattle.wire.proofs.put_u64.Statement.{statement}
-use Rattle.wire.proofs.put_u64.Tie as tie
+use Rattle.numbers.proofs.put_u64.Statement.{statement}
+use Rattle.numbers.proofs.put_u64.Tie as tie
 
 bytes64-requires : tie.Need-bytes64-requires
 bytes64-requires c κs = search needs
