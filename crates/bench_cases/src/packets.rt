@@ -1,7 +1,7 @@
 // Packets: read, and written again where they were accepted.
 use super::show;
 use packet::Answer;
-use packet::Encoded;
+use packet_encode::Encoded;
 
 // "ACK, type 7, year 6, UID 01 to 08"
 pub const ACK: [u8; 16] = [0, 14, 14, 2, 10, 7, 6, 1, 2, 3, 4, 5, 6, 7, 8, 1];
@@ -12,7 +12,7 @@ pub const DEVICE_DATA: [u8; 15] = [0, 13, 4, 4, 9, 5, 1, 1, 2, 7, 1, 1, 3, 1, 14
 // Whether the packet of this type and payload has these bytes.
 fn is_written_as(kind: u8, payload: &[u8], bytes: &[u8]) -> bool {
     let mut buffer = [0u8; packet::PACKET_ROOM];
-    let e = packet::encode(kind, payload, &mut buffer);
+    let e = packet_encode::encode(kind, payload, &mut buffer);
     let Encoded::Written(n) = e else {
         return false;
     };

@@ -13,7 +13,7 @@ use Rattle.packet.specs.Cobs.{decodedPart}
 use Rattle.packet.specs.Message.{messageOf}
 use Rattle.packet.specs.Packet.{StartsWith, Reading, Filling, Judgement, accepted, refused, PACKET_ROOM, copyOf, lengthByte, partPresent, packetError, refusal, answered, acceptance, decoded, filled}
 use Rattle.packet.proofs.DecodeStages.{good-front, length-message, decoded-refused, decoded-good, filled-small, filled-refused, filled-good}
-use Rattle.packet.proofs.EncodeStages.{length-messageOf}
+use Rattle.packet.proofs.Lengths.{length-messageOf}
 use Rattle.packet.proofs.Accepted.{complete}
 use Rattle.display.specs.PacketCall.{PacketOutcome, inNumbers, packetCall}
 

@@ -14,10 +14,9 @@ use Rattle.packet.specs.TypeTable.{allowed}
 use Rattle.packet.specs.Message.{xorFrom, headOf, messageOf, messageError}
 use Rattle.packet.specs.Packet.{IsPacket, StartsWith, Reading, accepted, copyOf, lengthByte, partPresent, frontError, packetError, refusal, acceptance, decoded}
 use Rattle.packet.proofs.CobsBlocks.{decodes, decoded-means, message-length}
-use Rattle.packet.proofs.Lengths.{allowed-top}
+use Rattle.packet.proofs.Lengths.{allowed-top, length-messageOf}
 use Rattle.packet.proofs.FrontTests.{Front, front-good, front-passed, pass, pass-on, not-eqb}
 use Rattle.packet.proofs.DecodeStages.{error-message, decoded-good, decoded-refused, length-part, length-message}
-use Rattle.packet.proofs.EncodeStages.{length-messageOf}
 
 -- the message of an allowed type and payload is not refused
 message-good : (kind : ℕ) (payload : List ℕ) → allowed kind (length payload) ≡ true → messageError (messageOf kind payload) ≡ 0

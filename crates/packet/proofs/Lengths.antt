@@ -1,13 +1,15 @@
--- The payload lengths of the type table: a single length as a range, and the greatest of all.
-use Prim.Native.Nat.{ℕ, _≤_}
+-- Lengths: the payload lengths of the type table, a single one as a range and the greatest of all, and that of a message.
+use Prim.Native.Nat.{ℕ, _+_, _≤_}
 use mathlib.Core.Path.{_≡_, refl, sym, _∙_}
 use mathlib.Core.Bool.{Bool, true, false, cond, _&&_}
 use mathlib.Core.List.{List, [], _∷_}
 use native.Mathlib.Omega.{arith}
 use lib.Dec.{eqb, leb}
+use lib.ListN.{length, length-append}
 use borrow.Author.Tests.{eq-eqb, ne-eqb, le-leb, leb-true}
 use Rattle.wire.proofs.Chains.{and-right}
 use Rattle.packet.specs.TypeTable.{Row, row, typeTable, allows, allowed}
+use Rattle.packet.specs.Message.{messageOf}
 use Rattle.packet.proofs.CobsSteps.{clash}
 
 -- equal to k is from k to k
@@ -38,3 +40,7 @@ allows-top top (row number least most ∷ rows) kind n w h =
 pub allowed-top : (kind n : ℕ) → allowed kind n ≡ true → n ≤ 251
 unfolding allowed within
 allowed-top kind n h = allows-top 251 typeTable kind n (omega arith, (omega arith, (omega arith, (omega arith, (omega arith, tt))))) h
+
+-- type, payload length and checksum stand beside the payload
+pub length-messageOf : (kind : ℕ) (payload : List ℕ) → length (messageOf kind payload) ≡ length payload + 3
+length-messageOf kind payload = simp length-append (omega arith)

@@ -6,8 +6,6 @@ pub mod Lengths
 pub mod FrontTests
 pub mod MessageTests
 pub mod DecodeStages
-pub mod EncodeStages
 pub mod Accepted
-pub mod RoundTrips
 pub mod OneByte
 pub mod Cases

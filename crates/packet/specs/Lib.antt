@@ -2,4 +2,3 @@ pub mod Cobs
 pub mod TypeTable
 pub mod Message
 pub mod Packet
-pub mod Encode

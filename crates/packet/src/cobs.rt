@@ -6,7 +6,7 @@ ghost use mathlib.Core.Bool.{false};
 ghost use lib.ListN.{length, getD, drop};
 ghost use Rattle.wire.specs.Zero.{hasZero};
 ghost use Rattle.packet.specs.Message.{xorFrom};
-ghost use Rattle.packet.specs.Cobs.{decodedPart, lacking, codeOr, gapFrom, gapBefore, stuffed};
+ghost use Rattle.packet.specs.Cobs.{decodedPart, lacking};
 
 // What a look at every byte of a part finds.
 pub struct Scanned {
@@ -97,38 +97,4 @@ pub fn second_byte(part: &[u8]) -> u8
         return 0;
     }
     part[2]
-}
-
-// What stands in the part for a byte of the message, with `gap` bytes between it and the next zero:
-// the code of the block that a zero opens, or the byte itself.
-pub fn code_or(byte: u8, gap: u8) -> u8
-    requires { ⌜ gap < 255 ⌝ }
-    ensures { λ r. ⌜ r ≡ codeOr byte gap ⌝ }
-{
-    if byte == 0 { gap + 1 } else { byte }
-}
-
-// The bytes before the next zero, seen from this byte on.
-pub fn gap_from(byte: u8, gap: u8) -> u8
-    requires { ⌜ gap < 255 ⌝ }
-    ensures { λ r. ⌜ r ≡ gapFrom byte gap ⌝ }
-{
-    if byte == 0 { 0 } else { gap + 1 }
-}
-
-// Encodes bytes of the message from the back, where `last` bytes follow before the next zero.
-// Answers the bytes before the first zero, seen from the front.
-pub fn encode_bytes(bytes: &[u8], last: u8, part: &mut [u8]) -> u8
-    requires { ⌜ (length (now bytes) ≡ length (now part)) × (last + length (now bytes) < 255) ⌝ }
-    ensures { λ r. ⌜ (r ≡ gapBefore last (now (bytes .entry))) × (now (part .exit) ≡ stuffed last (now (bytes .entry))) ⌝ }
-{
-    let mut gap = last;
-    let mut i = bytes.len();
-    while 0 < i {
-        i -= 1;
-        let b = bytes[i];
-        part[i] = code_or(b, gap);
-        gap = gap_from(b, gap);
-    }
-    gap
 }

@@ -2,11 +2,10 @@
 mod cobs;
 mod message;
 mod read;
-mod write;
 
+pub use message::is_allowed;
 pub use read::decode;
 pub use read::decode_into;
-pub use write::encode;
 
 // Room for any packet: the size of a working copy, and the least buffer that is written to.
 pub const PACKET_ROOM: usize = 257;
@@ -36,11 +35,4 @@ pub enum Answer {
 pub struct Decoded {
     pub answer: Answer,
     pub message: [u8; PACKET_ROOM],
-}
-
-pub enum Encoded {
-    // The number of bytes written.
-    Written(usize),
-    // The number of the error.
-    Refused(u8),
 }

@@ -15,19 +15,6 @@ ghost use Rattle.packet.specs.Cobs.{decodedPart};
 ghost use Rattle.packet.specs.TypeTable.{allowed};
 ghost use Rattle.packet.specs.Message.{xorFrom, messageError};
 
-// The exclusive or of `start` and all bytes.
-pub fn xor_from(start: u8, bytes: &[u8]) -> u8
-    ensures { λ r. ⌜ r ≡ xorFrom start (now (bytes .entry)) ⌝ }
-{
-    let mut x = start;
-    let mut i = 0;
-    while i < bytes.len() {
-        x = x ^ bytes[i];
-        i += 1;
-    }
-    x
-}
-
 // Is the type known, and does it allow a payload of n bytes?
 pub fn is_allowed(kind: u8, n: usize) -> bool
     ensures { λ r. ⌜ r ≡ allowed kind n ⌝ }

@@ -9,14 +9,14 @@ use borrow.Author.Needs.{needs}
 use borrow.Author.Tests.{not-true, not-false}
 use borrow.Rule.Slice.PartMut.{putMid}
 use Rattle.wire.specs.Area.{over}
 use Rattle.packet.specs.Cobs.{codeOr, gapFrom, gapBefore, stuffed}
 use Rattle.packet.specs.TypeTable.{allowed}
-use Rattle.packet.specs.Encode.{written, packetOf}
+use Rattle.packet_encode.specs.Encode.{written, packetOf}
 use Rattle.packet.proofs.CobsSteps.{gapFrom-le, gap-le}
 use Rattle.packet.proofs.Lengths.{allowed-top}
-use Rattle.packet.proofs.EncodeStages.{encoded-small, encoded-unknown, encoded-good, sumOf, sum-from, lastGap, firstGap, loaded, length-loaded, finished, length-packetOf}
-use Rattle.packet.proofs.write.encode.Statement.{statement}
-use Rattle.packet.proofs.write.encode.Tie as tie
+use Rattle.packet_encode.proofs.EncodeStages.{encoded-small, encoded-unknown, encoded-good, sumOf, sum-from, lastGap, firstGap, loaded, length-loaded, finished, length-packetOf}
+use Rattle.packet_encode.proofs.encode.Statement.{statement}
+use Rattle.packet_encode.proofs.encode.Tie as tie
 
 abbrev K : tie.Else2 → ℕ
 K c = c .before .before .before .before .before .args .kind

@@ -9,15 +9,15 @@ use lib.ListN.{length, take, drop}
 use lib.Seq.{take-at}
 use borrow.Author.Tests.{eqb-true, not-false}
 use Rattle.wire.specs.Area.{over}
 use Rattle.packet.specs.Cobs.{encodedPart}
 use Rattle.packet.specs.TypeTable.{allowed}
 use Rattle.packet.specs.Message.{messageOf}
 use Rattle.packet.specs.Packet.{PACKET_ROOM, IsPacket, accepted, copyOf, decoded}
-use Rattle.packet.specs.Encode.{Writing, written, packetOf, encodeError, encoded}
+use Rattle.packet_encode.specs.Encode.{Writing, written, packetOf, encodeError, encoded}
 use Rattle.packet.proofs.CobsBlocks.{encodes, encodes-only}
 use Rattle.packet.proofs.FrontTests.{pass}
-use Rattle.packet.proofs.EncodeStages.{encoded-good}
+use Rattle.packet_encode.proofs.EncodeStages.{encoded-good}
 use Rattle.packet.proofs.Accepted.{part-length, complete, sound}
 
 -- what is written for an allowed type and payload is a packet
 pub writes-packet : (kind : ℕ) (payload : List ℕ) → allowed kind (length payload) ≡ true → IsPacket (packetOf kind payload) kind payload

@@ -4,10 +4,10 @@ use mathlib.Core.Path.{_≡_, refl, sym, _∙_}
 use native.Mathlib.Omega.{arith}
 use lib.ListN.{length, drop}
 use borrow.Author.Needs.{needs}
 use Rattle.packet.specs.Message.{xorFrom}
 use Rattle.packet.proofs.Sums.{xor-next, xor-past}
-use Rattle.packet.proofs.message.xor_from.Statement.{statement}
-use Rattle.packet.proofs.message.xor_from.Tie as tie
+use Rattle.packet_encode.proofs.xor_from.Statement.{statement}
+use Rattle.packet_encode.proofs.xor_from.Tie as tie
 
 abbrev Inv-loop : tie.InvT-loop
 Inv-loop start bytes x₀ i₀ x i = (i ≤ length bytes) × (xorFrom x (drop i bytes) ≡ xorFrom start bytes)

@@ -3,9 +3,9 @@ use Prim.Native.Nat.{ℕ, zero, suc}
 use mathlib.Core.Path.{_≡_, refl}
 use native.Mathlib.Numerals.{add-one}
 use borrow.Author.Needs.{needs}
 use Rattle.packet.specs.Cobs.{codeOr}
-use Rattle.packet.proofs.cobs.code_or.Statement.{statement}
-use Rattle.packet.proofs.cobs.code_or.Tie as tie
+use Rattle.packet_encode.proofs.code_or.Statement.{statement}
+use Rattle.packet_encode.proofs.code_or.Tie as tie
 
 other : (b gap : ℕ) → (b ≡ 0 → ⊥) → b ≡ codeOr b gap
 unfolding codeOr

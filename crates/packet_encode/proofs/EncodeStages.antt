@@ -10,15 +10,13 @@ use lib.Seq.{drop-drop, drop-at, length-take-le, set-split}
 use borrow.Author.Tests.{lt-ltb, le-ltb}
 use borrow.Rule.Slice.PartMut.{putMid}
 use Rattle.wire.specs.Area.{over}
 use Rattle.packet.specs.Cobs.{codeOr, gapFrom, gapBefore, stuffed, encodedPart}
 use Rattle.packet.specs.TypeTable.{allowed}
 use Rattle.packet.specs.Message.{xorFrom, headOf, messageOf}
 use Rattle.packet.specs.Packet.{PACKET_ROOM}
-use Rattle.packet.specs.Encode.{written, refused, packetOf, encodeError, encoded}
+use Rattle.packet_encode.specs.Encode.{written, refused, packetOf, encodeError, encoded}
 use Rattle.packet.proofs.CobsSteps.{length-stuffed}
-
-pub length-messageOf : (kind : ℕ) (payload : List ℕ) → length (messageOf kind payload) ≡ length payload + 3
-length-messageOf kind payload = simp length-append (omega arith)
+use Rattle.packet.proofs.Lengths.{length-messageOf}
 
 pub length-encodedPart : (kind : ℕ) (payload : List ℕ) → length (encodedPart (messageOf kind payload)) ≡ length payload + 4
 length-encodedPart kind payload = length-stuffed 0 (0 ∷ messageOf kind payload) ∙ omega (arith, length-messageOf kind payload)

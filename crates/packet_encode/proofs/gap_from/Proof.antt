@@ -3,9 +3,9 @@ use Prim.Native.Nat.{ℕ, zero, suc, _+_}
 use mathlib.Core.Path.{_≡_, refl}
 use native.Mathlib.Numerals.{add-one}
 use borrow.Author.Needs.{needs}
 use Rattle.packet.specs.Cobs.{gapFrom}
-use Rattle.packet.proofs.cobs.gap_from.Statement.{statement}
-use Rattle.packet.proofs.cobs.gap_from.Tie as tie
+use Rattle.packet_encode.proofs.gap_from.Statement.{statement}
+use Rattle.packet_encode.proofs.gap_from.Tie as tie
 
 other : (b gap : ℕ) → (b ≡ 0 → ⊥) → gap + 1 ≡ gapFrom b gap
 unfolding gapFrom

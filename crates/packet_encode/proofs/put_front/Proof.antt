@@ -7,10 +7,10 @@ use native.Mathlib.Omega.{arith}
 use lib.ListN.{length-set}
 use lib.Seq.{sets-eq}
 use borrow.Author.Needs.{needs}
 use Rattle.packet.specs.Cobs.{codeOr, gapBefore, stuffed}
 use Rattle.packet.proofs.CobsSteps.{gapFrom-le}
-use Rattle.packet.proofs.write.put_front.Statement.{statement}
-use Rattle.packet.proofs.write.put_front.Tie as tie
+use Rattle.packet_encode.proofs.put_front.Statement.{statement}
+use Rattle.packet_encode.proofs.put_front.Tie as tie
 
 inner : (c : tie.After-gap-from) → c .gap-from .result ≤ 253
 inner c = omega (arith, c .gap-from .ensures, gapFrom-le (c .before .before .args .n) (c .before .before .args .gap))

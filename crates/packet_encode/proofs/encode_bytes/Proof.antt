@@ -3,9 +3,9 @@ use Prim.Native.Nat.{suc, _-_, _<_}
 use mathlib.Core.Path.{_≡_}
 use native.Mathlib.Omega.{arith}
 use borrow.Author.Needs.{needs}
 use Rattle.packet.proofs.CobsSteps.{Encoding, encoding, encoding-in, encoding-room, encoding-next, encoding-end, encoding-length}
-use Rattle.packet.proofs.cobs.encode_bytes.Statement.{statement}
-use Rattle.packet.proofs.cobs.encode_bytes.Tie as tie
+use Rattle.packet_encode.proofs.encode_bytes.Statement.{statement}
+use Rattle.packet_encode.proofs.encode_bytes.Tie as tie
 
 abbrev Inv-loop : tie.InvT-loop
 Inv-loop bytes last part₀ gap₀ i₀ part gap i = Encoding last bytes part₀ part gap i

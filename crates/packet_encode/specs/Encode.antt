@@ -5,12 +5,12 @@ use mathlib.Core.List.{List, _∷_}
 use lib.Dec.{eqb, ltb}
 use lib.ListN.{length}
 use Rattle.wire.specs.Area.{over}
-use Rattle.packet.specs.declared.Encoded.{Encoded}
-use Rattle.packet.specs.declared.Encoded.the-variants.{Written, Refused}
+use Rattle.packet_encode.specs.declared.Encoded.{Encoded}
+use Rattle.packet_encode.specs.declared.Encoded.the-variants.{Written, Refused}
 use Rattle.packet.specs.Cobs.{encodedPart}
 use Rattle.packet.specs.TypeTable.{allowed}
 use Rattle.packet.specs.Message.{messageOf}
 use Rattle.packet.specs.Packet.{PACKET_ROOM}
 
 -- the packet that is written: 00, the length of the part, the part
 abbrev pub packetOf : ℕ → List ℕ → List ℕ

@@ -1,0 +1,2 @@
+pub mod EncodeStages
+pub mod RoundTrips
