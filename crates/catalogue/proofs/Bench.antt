@@ -5,7 +5,7 @@ use mathlib.Core.Bool.{true, false}
 use mathlib.Core.List.{List, [], _∷_, _++_}
 use Rattle.wire.specs.Every.{every}
 use Rattle.catalogue.specs.Format.{typeLegal, parametersBefore, kindInt, kindFloat, kindBool, parameterLegal, legal}
-use Rattle.catalogue.specs.Lookup.{noDevice, deviceFrom, deviceOf, noParameter, parameterOf}
+use Rattle.catalogue.specs.Lookup.{noDevice, deviceFrom, deviceOf, noParameter, parameterIn, parameterOf}
 
 abbrev pub catalogueC : List ℕ
 catalogueC = 0x01 ∷ 0x07 ∷ 0x03 ∷ 0x03 ∷ 0x00 ∷ 0x04 ∷ 0x09 ∷ 0x06 ∷ []
@@ -26,7 +26,7 @@ pub record BenchC : Type 0 where
   pub not-rising : legal (0x02 ∷ 0x07 ∷ 0x00 ∷ 0x07 ∷ 0x00 ∷ 0x00 ∷ 0x00 ∷ []) ≡ false
 
 pub bench-C : BenchC
-unfolding legal every typeLegal parametersBefore parameterLegal deviceFrom parameterOf
+unfolding legal every typeLegal parametersBefore parameterLegal deviceFrom parameterIn
 bench-C =
     record {
       is-legal = refl;

@@ -11,7 +11,7 @@ use borrow.Author.Tests.{eq-eqb, eqb-true, ltb-true, leb-true}
 use Rattle.wire.specs.Every.{every}
 use Rattle.wire.proofs.Chains.{and-left, and-right, every-at}
 use Rattle.catalogue.specs.Format.{maxTypes, maxParameters, typeCount, typeNumber, parameterCount, typeLegal, parametersBefore, totalCount, parameterByte, kindBool, parameterLegal, described, legal}
-use Rattle.catalogue.specs.Lookup.{deviceAt, deviceFrom, deviceOf, noParameter, parameterOf}
+use Rattle.catalogue.specs.Lookup.{deviceAt, deviceFrom, deviceOf, noParameter, parameterIn, parameterOf}
 
 never : {A : Type 0} → false ≡ true → A
 never e = let z : _≡_ {A = ℕ} 0 1 = ap (λ (b : Bool). cond b 1 0) e in absurd (omega arith)
@@ -121,7 +121,7 @@ module _ (s : List ℕ) (h : legal s ≡ true) where
 
   -- LAW: a parameter of a legal catalogue is INT, FLOAT or BOOL
   pub kind-is-one-of-three : (number index : ℕ) → parameterOf s number index .kind ≤ kindBool
-  unfolding parameterOf
+  unfolding parameterIn
   kind-is-one-of-three number index = go (ltb index (deviceOf s number .parameters)) refl
     where
       inside : (b : Bool) → deviceOf s number .known ≡ b → index < deviceOf s number .parameters → deviceOf s number .first + index < parametersBefore s (typeCount s)

@@ -1,11 +1,15 @@
 -- One step of each definition that a loop follows.
 use Prim.Native.Nat.{ℕ, zero, suc, _+_, _-_, _<_}
-use mathlib.Core.Path.{_≡_}
-use mathlib.Core.Bool.{cond}
+use mathlib.Core.Path.{_≡_, refl, ap, _∙_}
+use mathlib.Core.Bool.{Bool, _&&_, cond}
 use mathlib.Core.List.{List}
 use native.Mathlib.Omega.{arith}
 use native.Mathlib.Numerals.{add-one}
+use native.Mathlib.Nat.{le-of-eq}
 use lib.Dec.{eqb}
+use lib.ListN.{length, getD, take, drop, length-drop}
+use lib.Seq.{take-all, getD-drop}
+use Rattle.wire.specs.Every.{every}
 use Rattle.catalogue.specs.Format.{typeNumber, parameterCount, parametersBefore}
 use Rattle.catalogue.specs.Lookup.{deviceAt, deviceFrom}
 
@@ -19,3 +23,23 @@ pub device-step :
 unfolding deviceFrom
 device-step zero s number i h = absurd (omega arith)
 device-step (suc n) s number i h = let e : suc n - 1 ≡ n = omega arith in rw e
+
+-- a test of one index more
+pub every-next : (i : ℕ) (test : ℕ → Bool) → every (i + 1) test ≡ (every i test && test i)
+unfolding every
+every-next i test = rw (add-one i)
+
+every-same : (n : ℕ) (p q : ℕ → Bool) → ((k : ℕ) → p k ≡ q k) → every n p ≡ every n q
+unfolding every
+every-same zero p q h = refl
+every-same (suc n) p q h = rw (every-same n p q h, h n)
+
+-- a test of each byte behind an offset is a test of each byte of the part that starts there
+pub every-behind :
+    (test : ℕ → Bool) (s : List ℕ) (from m : ℕ) → length s ≡ from + m →
+    every (length (take (length s - from) (drop from s))) (λ k. test (getD (take (length s - from) (drop from s)) k 0)) ≡
+    every m (λ k. test (getD s (from + k) 0))
+every-behind test s from m h =
+    let l : length (drop from s) ≡ m = length-drop from s ∙ omega arith in
+    rw (take-all (length s - from) (drop from s) (le-of-eq (length-drop from s)), l)
+    (every-same m (λ k. test (getD (drop from s) k 0)) (λ k. test (getD s (from + k) 0)) (λ k. ap test (getD-drop from s k 0)))

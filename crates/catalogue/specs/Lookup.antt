@@ -29,6 +29,9 @@ abbrev pub noParameter : Parameter
 noParameter = record { known = false; kind = kindInt; readable = false; writable = false }
 
 -- parameter `index` of a device type; a type's parameters follow those of the types before it
-unfoldable pub parameterOf : List ℕ → ℕ → ℕ → Parameter
-parameterOf s number index =
-    cond (ltb index (deviceOf s number .parameters)) (described (parameterByte s (deviceOf s number .first + index))) noParameter
+unfoldable pub parameterIn : List ℕ → Device → ℕ → Parameter
+parameterIn s d index = cond (ltb index (d .parameters)) (described (parameterByte s (d .first + index))) noParameter
+
+-- the same of the device type of this number
+abbrev pub parameterOf : List ℕ → ℕ → ℕ → Parameter
+parameterOf s number index = parameterIn s (deviceOf s number) index

@@ -1,10 +1,10 @@
 // The catalogue: which device types there are, and the kind and direction of each of their parameters.
 ghost use Prim.Native.Nat.{_+_, _*_, _≤_};
 ghost use mathlib.Core.Path.{_≡_};
-ghost use lib.ListN.{getD};
+ghost use lib.ListN.{length, getD};
 ghost use Rattle.wire.specs.Every.{every};
-ghost use Rattle.catalogue.specs.Format.{maxTypes, typeLegal, parametersBefore, parameterLegal, described, legal};
-ghost use Rattle.catalogue.specs.Lookup.{deviceOf, parameterOf};
+ghost use Rattle.catalogue.specs.Format.{maxTypes, typeLegal, parametersBefore, parameterByte, parameterLegal, described, legal};
+ghost use Rattle.catalogue.specs.Lookup.{deviceOf, parameterIn, parameterOf};
 
 // The most device types, and the most parameters of one type.
 const MAX_TYPES: usize = 32;
@@ -88,26 +88,21 @@ fn parameters_before(s: &[u8], n: usize) -> usize
 fn is_legal_parameter(b: u8) -> bool
     ensures { λ r. ⌜ r ≡ parameterLegal b ⌝ }
 {
-    if b < 16 {
-        return b % 4 <= BOOL;
-    }
-    false
+    (b < 16) & (b % 4 <= BOOL)
 }
 
-// The n parameter bytes from an offset on.
-fn are_legal_parameters(s: &[u8], from: usize, n: usize) -> bool
-    requires { ⌜ (from ≤ 3 + 2 * maxTypes) × (n ≤ 255 * maxTypes) ⌝ }
-    ensures { λ r. ⌜ r ≡ every n (λ k. parameterLegal (getD (now (s .entry)) (from + k) 0)) ⌝ }
+// Whether each of the bytes describes a parameter. Every byte is looked at, so that the loop has one exit and can run on
+// many bytes at once.
+fn are_legal_parameters(bytes: &[u8]) -> bool
+    ensures { λ r. ⌜ r ≡ every (length (now (bytes .entry))) (λ k. parameterLegal (getD (now (bytes .entry)) k 0)) ⌝ }
 {
+    let mut legal = true;
     let mut i = 0;
-    while i < n {
-        if is_legal_parameter(wire::byte_at(s, from + i)) {
-            i += 1;
-        } else {
-            return false;
-        }
+    while i < bytes.len() {
+        legal = legal & is_legal_parameter(bytes[i]);
+        i += 1;
     }
-    true
+    legal
 }
 
 // Whether these bytes are a legal catalogue.
@@ -126,15 +121,16 @@ pub fn is_legal(s: &[u8]) -> bool
     if numbers::u16_at(s, 1 + 2 * n) as usize != m {
         return false;
     }
-    let parameters = are_legal_parameters(s, 3 + 2 * n, m);
-    if !parameters {
+    let from = 3 + 2 * n;
+    if s.len() != from + m {
         return false;
     }
-    s.len() == 3 + 2 * n + m
+    are_legal_parameters(&s[from..])
 }
 
-fn locate(s: &[u8], number: u8) -> Device
-    ensures { λ r. ⌜ (r ≡ deviceOf (now (s .entry)) number) × (r .first ≤ 255 * 255) × (r .parameters ≤ 255) ⌝ }
+// The device type of this number.
+pub fn find_device(s: &[u8], number: u8) -> Device
+    ensures { λ r. ⌜ r ≡ deviceOf (now (s .entry)) number ⌝ }
 {
     let n = number_at(s, 0);
     let mut left = n;
@@ -160,13 +156,6 @@ fn locate(s: &[u8], number: u8) -> Device
     }
 }
 
-// The device type of this number.
-pub fn find_device(s: &[u8], number: u8) -> Device
-    ensures { λ r. ⌜ r ≡ deviceOf (now (s .entry)) number ⌝ }
-{
-    locate(s, number)
-}
-
 fn describe(b: u8) -> Parameter
     ensures { λ r. ⌜ r ≡ described b ⌝ }
 {
@@ -178,15 +167,29 @@ fn describe(b: u8) -> Parameter
     }
 }
 
-// Parameter `index` of the device type of this number.
-pub fn find_parameter(s: &[u8], number: u8, index: usize) -> Parameter
-    ensures { λ r. ⌜ r ≡ parameterOf (now (s .entry)) number index ⌝ }
+// The byte of parameter `index` behind the first `first` of all types, 0 past the end.
+fn parameter_byte(s: &[u8], first: usize, index: usize) -> u8
+    ensures { λ r. ⌜ r ≡ parameterByte (now (s .entry)) (first + index) ⌝ }
 {
-    let d = locate(s, number);
+    if s.len() <= first {
+        return 0;
+    }
+    let from = 3 + 2 * number_at(s, 0) + first;
+    if s.len() <= from {
+        return 0;
+    }
+    if index < s.len() - from {
+        return s[from + index];
+    }
+    0
+}
+
+// Parameter `index` of a device type, which a caller that asks for several locates once.
+pub fn parameter_of(s: &[u8], d: Device, index: usize) -> Parameter
+    ensures { λ r. ⌜ r ≡ parameterIn (now (s .entry)) d index ⌝ }
+{
     if index < d.parameters {
-        let from = 3 + 2 * number_at(s, 0);
-        let b = wire::byte_at(s, from + (d.first + index));
-        return describe(b);
+        return describe(parameter_byte(s, d.first, index));
     }
     Parameter {
         known: false,
@@ -194,4 +197,12 @@ pub fn find_parameter(s: &[u8], number: u8, index: usize) -> Parameter
         readable: false,
         writable: false,
     }
+}
+
+// Parameter `index` of the device type of this number.
+pub fn find_parameter(s: &[u8], number: u8, index: usize) -> Parameter
+    ensures { λ r. ⌜ r ≡ parameterOf (now (s .entry)) number index ⌝ }
+{
+    let d = find_device(s, number);
+    parameter_of(s, d, index)
 }

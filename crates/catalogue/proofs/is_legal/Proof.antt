@@ -1,7 +1,10 @@
 -- `catalogue::is_legal` meets its contract, by the tests that lead to each answer.
+use mathlib.Core.Path.{_∙_}
+use mathlib.Core.Bool.{and-true, and-false}
 use borrow.Author.Needs.{needs}
 use borrow.Author.Tests.{eq-eqb, ne-eqb, le-leb, lt-leb, not-true, not-false}
-use Rattle.catalogue.specs.Format.{legal}
+use Rattle.catalogue.specs.Format.{parameterLegal, legal}
+use Rattle.catalogue.proofs.Steps.{every-behind}
 use Rattle.catalogue.proofs.is_legal.Statement.{statement}
 use Rattle.catalogue.proofs.is_legal.Tie as tie
 
@@ -53,53 +56,58 @@ returns-3 c =
       ne-eqb _ _ (c .if3 .taken),
     )
 
-mul-are-legal-parameters : tie.Need-mul-are-legal-parameters
-mul-are-legal-parameters c = search needs
+mul-from : tie.Need-mul-from
+mul-from c = search needs
 
-add-are-legal-parameters : tie.Need-add-are-legal-parameters
-add-are-legal-parameters c = search needs
+add-from : tie.Need-add-from
+add-from c = search needs
 
-are-legal-parameters-requires : tie.Need-are-legal-parameters-requires
-are-legal-parameters-requires c κs = search needs
+add-if4 : tie.Need-add-if4
+add-if4 c = search needs
 
 returns-4 : tie.Need-returns-4
 unfolding legal
 returns-4 c =
     rw (
-      ← c .before .before .before .before .before .before .before .before .number-at .ensures .0,
-      le-leb _ _ (c .before .before .before .before .before .before .before .if1 .left),
-      ← c .before .before .before .before .before .before .are-legal-types .ensures,
-      not-false (c .before .before .before .before .before .before .are-legal-types .result) (c .before .before .before .before .before .if2 .left),
-      ← c .before .before .before .before .parameters-before .ensures .0,
-      ← c .before .before .before .u16-at .ensures,
-      eq-eqb _ _ (c .before .before .if3 .left),
-      ← c .before .are-legal-parameters .ensures,
-      not-true (c .before .are-legal-parameters .result) (c .if4 .taken),
+      ← c .before .before .before .before .before .before .before .number-at .ensures .0,
+      le-leb _ _ (c .before .before .before .before .before .before .if1 .left),
+      ← c .before .before .before .before .before .are-legal-types .ensures,
+      not-false (c .before .before .before .before .before .are-legal-types .result) (c .before .before .before .before .if2 .left),
+      ← c .before .before .before .parameters-before .ensures .0,
+      ← c .before .before .u16-at .ensures,
+      eq-eqb _ _ (c .before .if3 .left),
+      ne-eqb _ _ (c .if4 .taken),
+      and-false,
     )
 
-mul-result : tie.Need-mul-result
-mul-result c = search needs
+sub-are-legal-parameters : tie.Need-sub-are-legal-parameters
+sub-are-legal-parameters c = search needs
 
-add-result : tie.Need-add-result
-add-result c = search needs
+part-are-legal-parameters-start : tie.Need-part-are-legal-parameters-start
+part-are-legal-parameters-start c = search needs
 
-add-result-2 : tie.Need-add-result-2
-add-result-2 c = search needs
+part-are-legal-parameters-end : tie.Need-part-are-legal-parameters-end
+part-are-legal-parameters-end c = search needs
+
+are-legal-parameters-requires : tie.Need-are-legal-parameters-requires
+are-legal-parameters-requires c κs = search needs
 
 returns-5 : tie.Need-returns-5
 unfolding legal
 returns-5 c =
+    let l = c .before .before .if4 .left in
     rw (
-      ← c .before .before .before .before .before .before .before .before .number-at .ensures .0,
-      le-leb _ _ (c .before .before .before .before .before .before .before .if1 .left),
-      ← c .before .before .before .before .before .before .are-legal-types .ensures,
-      not-false (c .before .before .before .before .before .before .are-legal-types .result) (c .before .before .before .before .before .if2 .left),
-      ← c .before .before .before .before .parameters-before .ensures .0,
-      ← c .before .before .before .u16-at .ensures,
-      eq-eqb _ _ (c .before .before .if3 .left),
-      ← c .before .are-legal-parameters .ensures,
-      not-false (c .before .are-legal-parameters .result) (c .if4 .left),
+      ← c .before .before .before .before .before .before .before .before .before .number-at .ensures .0,
+      le-leb _ _ (c .before .before .before .before .before .before .before .before .if1 .left),
+      ← c .before .before .before .before .before .before .before .are-legal-types .ensures,
+      not-false (c .before .before .before .before .before .before .before .are-legal-types .result) (c .before .before .before .before .before .before .if2 .left),
+      ← c .before .before .before .before .before .parameters-before .ensures .0,
+      ← c .before .before .before .before .u16-at .ensures,
+      eq-eqb _ _ (c .before .before .before .if3 .left),
+      eq-eqb _ _ l,
+      and-true,
     )
+    (c .are-legal-parameters .ensures ∙ every-behind parameterLegal (c .before .before .before .before .before .before .before .before .before .before .before .args .s .now) _ _ l)
 
 pub is-legal-spec : {M : Type 1} → statement M
 is-legal-spec =
@@ -115,11 +123,12 @@ is-legal-spec =
     u16-at-requires
     cast-if3
     returns-3
-    mul-are-legal-parameters
-    add-are-legal-parameters
-    are-legal-parameters-requires
+    mul-from
+    add-from
+    add-if4
     returns-4
-    mul-result
-    add-result
-    add-result-2
+    sub-are-legal-parameters
+    part-are-legal-parameters-start
+    part-are-legal-parameters-end
+    are-legal-parameters-requires
     returns-5)

@@ -1,4 +1,4 @@
--- `catalogue::locate` meets its contract. Invariant: the look-up from type i on has the whole look-up's answer.
+-- `catalogue::find_device` meets its contract. Invariant: the look-up from type i on has the whole look-up's answer.
 use Prim.Native.Nat.{_+_, _*_, _≤_}
 use mathlib.Core.Path.{_≡_, refl, _∙_}
 use native.Mathlib.Omega.{arith}
@@ -7,8 +7,8 @@ use borrow.Author.Tests.{eq-eqb, ne-eqb}
 use Rattle.catalogue.specs.Format.{parametersBefore}
 use Rattle.catalogue.specs.Lookup.{deviceFrom}
 use Rattle.catalogue.proofs.Steps.{device-step, parameters-more}
-use Rattle.catalogue.proofs.locate.Statement.{statement}
-use Rattle.catalogue.proofs.locate.Tie as tie
+use Rattle.catalogue.proofs.find_device.Statement.{statement}
+use Rattle.catalogue.proofs.find_device.Tie as tie
 
 abbrev Inv-loop : tie.InvT-loop
 Inv-loop s number n left₀ i₀ first₀ left i first =
@@ -43,19 +43,16 @@ byte-at-requires : tie.Need-byte-at-requires Inv-loop μ-loop
 byte-at-requires c κs = search needs
 
 returns : tie.Need-returns Inv-loop μ-loop
-returns c = (
-  rw (
-    ← c .before .before .before .before .before .number-at .ensures .0,
-    c .before .before .before .before .loop .inv .3,
-    device-step _ _ _ _ (c .before .before .before .loop-test .taken),
-    ← c .before .byte-at .ensures,
-    eq-eqb _ _ (c .if1 .taken),
-    ← c .before .before .before .before .loop .inv .1,
-    ← c .before .before .number-at2 .ensures .0,
-  ),
-  omega arith,
-  omega arith,
-)
+returns c =
+    rw (
+      ← c .before .before .before .before .before .number-at .ensures .0,
+      c .before .before .before .before .loop .inv .3,
+      device-step _ _ _ _ (c .before .before .before .loop-test .taken),
+      ← c .before .byte-at .ensures,
+      eq-eqb _ _ (c .if1 .taken),
+      ← c .before .before .before .before .loop .inv .1,
+      ← c .before .before .number-at2 .ensures .0,
+    )
 
 add-first : tie.Need-add-first Inv-loop μ-loop
 add-first c = search needs
@@ -83,10 +80,10 @@ loop-again c = (
 
 returns-2 : tie.Need-returns-2 Inv-loop μ-loop
 unfolding deviceFrom
-returns-2 c = let z : c .before .loop .left ≡ 0 = omega arith in (rw (← c .before .before .number-at .ensures .0, c .before .loop .inv .3, z), omega arith, omega arith)
+returns-2 c = let z : c .before .loop .left ≡ 0 = omega arith in rw (← c .before .before .number-at .ensures .0, c .before .loop .inv .3, z)
 
-pub locate-spec : {M : Type 1} → statement M
-locate-spec =
+pub find-device-spec : {M : Type 1} → statement M
+find-device-spec =
     tie.close
     (tie.spec
     Inv-loop
