@@ -11,7 +11,7 @@ use Rattle.packet.specs.TypeTable.{allows, allowed}
 use Rattle.packet.specs.Message.{xorFrom, messageError}
 use Rattle.packet.specs.Packet.{frontError, packetError, refusal, acceptance, decoded}
 use Rattle.catalogue.specs.Format.{typeLegal, parametersBefore, parameterLegal, legal}
-use Rattle.catalogue.specs.Lookup.{deviceFrom, parameterOf}
+use Rattle.catalogue.specs.Lookup.{deviceFrom, parameterIn}
 use Rattle.catalogue.proofs.Bench.{catalogueC}
 use Rattle.table.specs.Slots.{emptyTable, withSlot, holds, slotFrom, freeFrom}
 use Rattle.table.specs.Lawful.{valueLawful, heldLawful, nothingHeld, slotLawful, slotsDiffer, lawfulAt, lawful, admitted}
@@ -55,5 +55,5 @@ pub record BenchReceive : Type 0 where
   pub nobody : receivedOf catalogueC filledC 4 dataC ≡ refusing filledC 15
 
 pub bench-receive : BenchReceive
-unfolding every hasZero plain lacking allows allowed xorFrom messageError frontError packetError refusal acceptance decoded typeLegal parametersBefore parameterLegal legal deviceFrom parameterOf holds slotFrom freeFrom valueLawful heldLawful nothingHeld slotLawful slotsDiffer lawfulAt lawful admitted uidElsewhere uidFree assigned acknowledged width offsetOf allReadable sizeOf allFlags judged storedTo appliedTo appliedBy applied byType receivedOf
+unfolding every hasZero plain lacking allows allowed xorFrom messageError frontError packetError refusal acceptance decoded typeLegal parametersBefore parameterLegal legal deviceFrom parameterIn holds slotFrom freeFrom valueLawful heldLawful nothingHeld slotLawful slotsDiffer lawfulAt lawful admitted uidElsewhere uidFree assigned acknowledged width offsetOf allReadable sizeOf allFlags judged storedTo appliedTo appliedBy applied byType receivedOf
 bench-receive = record { ack = refl; values = refl; ping = refl; second-ack = refl; same-uid = refl; nobody = refl }

@@ -7,7 +7,7 @@ use lib.IntN.{pos}
 use lib.ListN.{replicate, set}
 use Rattle.wire.specs.Every.{every}
 use Rattle.catalogue.specs.Format.{parametersBefore}
-use Rattle.catalogue.specs.Lookup.{deviceFrom, parameterOf}
+use Rattle.catalogue.specs.Lookup.{deviceFrom, parameterIn}
 use Rattle.catalogue.proofs.Bench.{catalogueC}
 use Rattle.value.specs.declared.Value.the-variants.{Int, Bool}
 use Rattle.table.specs.Slots.{freshSlot}
@@ -35,7 +35,7 @@ pub record BenchData : Type 0 where
   pub empty-map : judged catalogueC 7 (0 ∷ 0 ∷ 0 ∷ 0 ∷ []) ≡ Accepted
 
 pub bench-data : BenchData
-unfolding judged allReadable sizeOf allFlags every width offsetOf storedTo contentOf parameterOf deviceFrom parametersBefore
+unfolding judged allReadable sizeOf allFlags every width offsetOf storedTo contentOf parameterIn deviceFrom parametersBefore
 bench-data =
     record {
       is-accepted = refl;

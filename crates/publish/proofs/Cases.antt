@@ -9,7 +9,7 @@ use Rattle.wire.specs.Every.{every}
 use Rattle.list.specs.Tree.{none, value, list, int, blob}
 use Rattle.list.specs.Bytes.{codeFor, listBytes}
 use Rattle.catalogue.specs.Format.{typeLegal, parametersBefore, parameterLegal, legal}
-use Rattle.catalogue.specs.Lookup.{deviceFrom, parameterOf}
+use Rattle.catalogue.specs.Lookup.{deviceFrom, parameterIn}
 use Rattle.catalogue.proofs.Bench.{catalogueC}
 use Rattle.table.specs.Slots.{paramCount, emptySlot, holds, slotFrom}
 use Rattle.table.specs.Lawful.{valueLawful, heldLawful, nothingHeld, slotLawful, slotsDiffer, lawfulAt, lawful}
@@ -69,5 +69,5 @@ pub record Cases : Type 0 where
 
 pub cases : Cases
 unfolding elementOf parametersFrom device rowBefore devicesFrom codeFor listBytes ofBits toBits every typeLegal parametersBefore parameterLegal legal
-    deviceFrom parameterOf holds slotFrom valueLawful heldLawful nothingHeld slotLawful slotsDiffer lawfulAt lawful
+    deviceFrom parameterIn holds slotFrom valueLawful heldLawful nothingHeld slotLawful slotsDiffer lawfulAt lawful
 cases = record { bench-list = refl; bench-size = refl; full-catalogue = refl; full-lawful = refl; full-size = refl }

@@ -5,12 +5,14 @@ use crate::SLOTS;
 use crate::SOCKETS;
 use crate::Slot;
 use crate::Table;
+use catalogue::Device;
 use catalogue::Parameter;
 ghost use Prim.Native.Nat.{_<_};
 ghost use mathlib.Core.Path.{_≡_};
 ghost use Rattle.wire.specs.Every.{every};
+ghost use Rattle.catalogue.specs.Lookup.{parameterIn};
 ghost use Rattle.table.specs.Slots.{slotCount, paramCount, slotAt};
-ghost use Rattle.table.specs.Lawful.{valueLawful, heldLawful, nothingHeld, slotLawful, slotsDiffer, lawfulAt, lawful, admitted};
+ghost use Rattle.table.specs.Lawful.{presentAt, bitsAt, valueLawful, nothingHeld, slotLawful, slotsDiffer, lawfulAt, lawful, admitted};
 
 fn is_lawful_value(p: Parameter, present: bool, bits: u32) -> bool
     ensures { λ r. ⌜ r ≡ valueLawful p present bits ⌝ }
@@ -27,13 +29,13 @@ fn is_lawful_value(p: Parameter, present: bool, bits: u32) -> bool
     bits == 0
 }
 
-fn are_lawful_values(c: &[u8], s: Slot) -> bool
-    ensures { λ r. ⌜ r ≡ every paramCount (heldLawful (now (c .entry)) s) ⌝ }
+// The values of a slot with this device type.
+fn are_lawful_values(c: &[u8], d: Device, s: Slot) -> bool
+    ensures { λ r. ⌜ r ≡ every paramCount (λ p. valueLawful (parameterIn (now (c .entry)) d p) (presentAt s p) (bitsAt s p)) ⌝ }
 {
-    let device = s.device;
     let mut i = 0;
     while i < PARAMS {
-        let p = catalogue::find_parameter(c, device, i);
+        let p = catalogue::parameter_of(c, d, i);
         if is_lawful_value(p, s.present[i], s.bits[i]) {
             i += 1;
         } else {
@@ -66,7 +68,7 @@ fn is_lawful_slot(c: &[u8], s: Slot) -> bool
         if s.socket < SOCKETS {
             let d = catalogue::find_device(c, s.device);
             if d.known {
-                return are_lawful_values(c, s);
+                return are_lawful_values(c, d, s);
             }
         }
         return false;

@@ -1,7 +1,12 @@
 -- `table::lawful::is_lawful_slot` meets its contract, by the tests that lead to each answer.
+use mathlib.Core.Path.{ap, _∙_}
 use borrow.Author.Needs.{needs}
 use borrow.Author.Tests.{eq-eqb, ne-eqb, lt-ltb, le-ltb}
-use Rattle.table.specs.Lawful.{slotLawful}
+use Rattle.wire.specs.Every.{every}
+use Rattle.catalogue.specs.Lookup.{parameterIn}
+use Rattle.catalogue.specs.declared.Device.{Device}
+use Rattle.table.specs.Lawful.{presentAt, bitsAt, valueLawful, heldLawful, slotLawful}
+use Rattle.table.specs.Slots.{paramCount}
 use Rattle.table.proofs.lawful.is_lawful_slot.Statement.{statement}
 use Rattle.table.proofs.lawful.is_lawful_slot.Tie as tie
 
@@ -12,15 +17,17 @@ are-lawful-values-requires : tie.Need-are-lawful-values-requires
 are-lawful-values-requires c κs = search needs
 
 returns : tie.Need-returns
-unfolding slotLawful
+unfolding slotLawful heldLawful
 returns c =
+    let a = c .before .before .before .before .before .before .before .args in
+    let f = c .before .before .find-device .ensures in
     rw (
       lt-ltb _ _ (c .before .before .before .if2 .taken),
-      ← c .before .before .find-device .ensures,
+      ← f,
       c .before .if3 .taken,
-      c .are-lawful-values .ensures,
       c .before .before .before .before .before .if1 .taken,
     )
+    (c .are-lawful-values .ensures ∙ ap (λ (d : Device). every paramCount (λ p. valueLawful (parameterIn (a .c .now) d p) (presentAt (a .s) p) (bitsAt (a .s) p))) f)
 
 returns-2 : tie.Need-returns-2
 unfolding slotLawful
