@@ -24,15 +24,16 @@ unfolding deviceFrom
 device-step zero s number i h = absurd (omega arith)
 device-step (suc n) s number i h = let e : suc n - 1 ≡ n = omega arith in rw e
 
--- a test of one index more
-pub every-next : (i : ℕ) (test : ℕ → Bool) → every (i + 1) test ≡ (every i test && test i)
+-- a flag that speaks of the first i indices, with the test of the next
+pub every-grow : (i : ℕ) (test : ℕ → Bool) {flag next : Bool} → flag ≡ every i test → next ≡ test i → (flag && next) ≡ every (i + 1) test
 unfolding every
-every-next i test = rw (add-one i)
+every-grow i test h k = rw (add-one i, h, k)
 
-every-same : (n : ℕ) (p q : ℕ → Bool) → ((k : ℕ) → p k ≡ q k) → every n p ≡ every n q
+-- tests that agree at every index
+pub every-same : (n : ℕ) (p q : ℕ → Bool) → ((k : ℕ) → k < n → p k ≡ q k) → every n p ≡ every n q
 unfolding every
 every-same zero p q h = refl
-every-same (suc n) p q h = rw (every-same n p q h, h n)
+every-same (suc n) p q h = rw (every-same n p q (λ k l. h k (omega arith)), h n (omega arith))
 
 -- a test of each byte behind an offset is a test of each byte of the part that starts there
 pub every-behind :
@@ -42,4 +43,4 @@ pub every-behind :
 every-behind test s from m h =
     let l : length (drop from s) ≡ m = length-drop from s ∙ omega arith in
     rw (take-all (length s - from) (drop from s) (le-of-eq (length-drop from s)), l)
-    (every-same m (λ k. test (getD (drop from s) k 0)) (λ k. test (getD s (from + k) 0)) (λ k. ap test (getD-drop from s k 0)))
+    (every-same m (λ k. test (getD (drop from s) k 0)) (λ k. test (getD s (from + k) 0)) (λ k l. ap test (getD-drop from s k 0)))

@@ -1,9 +1,11 @@
 -- What the catalogue says of a device type and of its parameters ("each type is in the catalogue"; "a readable parameter of that kind").
-use Prim.Native.Nat.{ℕ, zero, suc, _+_}
+use Prim.Native.Nat.{ℕ, zero, suc, _+_, _<_}
+use mathlib.Core.Path.{_≡_}
 use mathlib.Core.Bool.{true, false, cond}
 use mathlib.Core.List.{List}
 use lib.Dec.{ltb, eqb}
-use Rattle.catalogue.specs.Format.{typeCount, typeNumber, parameterCount, parametersBefore, parameterByte, kindInt, described}
+use lib.ListN.{length, getD}
+use Rattle.catalogue.specs.Format.{maxParameters, typeCount, typeNumber, parameterCount, parametersBefore, parameterByte, kindInt, described}
 use Rattle.catalogue.specs.declared.Device.{Device}
 use Rattle.catalogue.specs.declared.Parameter.{Parameter}
 
@@ -35,3 +37,12 @@ parameterIn s d index = cond (ltb index (d .parameters)) (described (parameterBy
 -- the same of the device type of this number
 abbrev pub parameterOf : List ℕ → ℕ → ℕ → Parameter
 parameterOf s number index = parameterIn s (deviceOf s number) index
+
+-- the byte of that parameter; 0, which describes none that is readable, where there is no such parameter
+unfoldable pub byteIn : List ℕ → Device → ℕ → ℕ
+byteIn s d index = cond (ltb index (d .parameters)) (parameterByte s (d .first + index)) 0
+
+-- the bytes of a device type's first 32 parameters
+pub record BytesIn (s : List ℕ) (d : Device) (bytes : List ℕ) : Type 0 where
+  pub all : length bytes ≡ maxParameters
+  pub each : (p : ℕ) → p < maxParameters → getD bytes p 0 ≡ byteIn s d p

@@ -1,15 +1,17 @@
 // The catalogue: which device types there are, and the kind and direction of each of their parameters.
-ghost use Prim.Native.Nat.{_+_, _*_, _≤_};
+ghost use Prim.Native.Nat.{ℕ, _+_, _*_, _≤_, _<_};
 ghost use mathlib.Core.Path.{_≡_};
+ghost use mathlib.Core.Bool.{cond};
+ghost use lib.Dec.{ltb};
 ghost use lib.ListN.{length, getD};
 ghost use Rattle.wire.specs.Every.{every};
-ghost use Rattle.catalogue.specs.Format.{maxTypes, typeLegal, parametersBefore, parameterByte, parameterLegal, described, legal};
-ghost use Rattle.catalogue.specs.Lookup.{deviceOf, parameterIn, parameterOf};
+ghost use Rattle.catalogue.specs.Format.{maxTypes, maxParameters, typeLegal, parametersBefore, parameterByte, parameterLegal, described, legal};
+ghost use Rattle.catalogue.specs.Lookup.{deviceOf, parameterIn, parameterOf, byteIn, BytesIn};
 
 // The most device types, and the most parameters of one type.
 const MAX_TYPES: usize = 32;
 
-const MAX_PARAMETERS: u8 = 32;
+pub const MAX_PARAMETERS: usize = 32;
 
 // The kinds of a parameter.
 pub const INT: u8 = 0;
@@ -44,7 +46,7 @@ fn is_legal_type(s: &[u8], i: usize) -> bool
     requires { ⌜ i ≤ maxTypes ⌝ }
     ensures { λ r. ⌜ r ≡ typeLegal (now (s .entry)) i ⌝ }
 {
-    let n = wire::byte_at(s, 2 + 2 * i);
+    let n = number_at(s, 2 + 2 * i);
     if MAX_PARAMETERS < n {
         return false;
     }
@@ -156,7 +158,8 @@ pub fn find_device(s: &[u8], number: u8) -> Device
     }
 }
 
-fn describe(b: u8) -> Parameter
+// The parameter that a byte describes.
+pub fn describe(b: u8) -> Parameter
     ensures { λ r. ⌜ r ≡ described b ⌝ }
 {
     Parameter {
@@ -165,6 +168,53 @@ fn describe(b: u8) -> Parameter
         readable: b / 4 % 2 == 1,
         writable: b / 8 % 2 == 1,
     }
+}
+
+// Where the bytes of a device type's parameters stand, as far as the catalogue has them.
+struct Span {
+    from: usize,
+    count: usize,
+}
+
+fn least(a: usize, b: usize) -> usize
+    ensures { λ r. ⌜ (r ≤ a) × (r ≤ b) × (r < a → b ≤ r) ⌝ }
+{
+    if a < b {
+        return a;
+    }
+    b
+}
+
+// The first 32 of them; what stands in no span is 0.
+fn span_of(s: &[u8], d: Device) -> Span
+    ensures { λ r. ⌜ (r .from + r .count ≤ length (now (s .entry))) × (r .count ≤ maxParameters)
+        × ((p : ℕ) → p < maxParameters → cond (ltb p (r .count)) (getD (now (s .entry)) (r .from + p) 0) 0 ≡ byteIn (now (s .entry)) d p) ⌝ }
+{
+    if s.len() <= d.first {
+        return Span { from: 0, count: 0 };
+    }
+    let from = 3 + 2 * number_at(s, 0) + d.first;
+    if s.len() <= from {
+        return Span { from: 0, count: 0 };
+    }
+    let most = least(d.parameters, MAX_PARAMETERS);
+    let count = least(most, s.len() - from);
+    Span { from, count }
+}
+
+// The bytes of a device type's parameters, 0 where it has none, for a caller that asks for several of them.
+pub fn parameter_bytes(s: &[u8], d: Device) -> [u8; MAX_PARAMETERS]
+    ensures { λ r. ⌜ BytesIn (now (s .entry)) d r ⌝ }
+{
+    let mut bytes = [0u8; MAX_PARAMETERS];
+    let span = span_of(s, d);
+    let from = span.from;
+    let mut i = 0;
+    while i < span.count {
+        bytes[i] = s[from + i];
+        i += 1;
+    }
+    bytes
 }
 
 // The byte of parameter `index` behind the first `first` of all types, 0 past the end.
@@ -184,8 +234,8 @@ fn parameter_byte(s: &[u8], first: usize, index: usize) -> u8
     0
 }
 
-// Parameter `index` of a device type, which a caller that asks for several locates once.
-pub fn parameter_of(s: &[u8], d: Device, index: usize) -> Parameter
+// Parameter `index` of a device type.
+fn parameter_of(s: &[u8], d: Device, index: usize) -> Parameter
     ensures { λ r. ⌜ r ≡ parameterIn (now (s .entry)) d index ⌝ }
 {
     if index < d.parameters {

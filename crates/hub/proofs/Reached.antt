@@ -17,6 +17,7 @@ use Rattle.list.specs.Bytes.{listBytes}
 use Rattle.list.specs.Legal.{Legal}
 use Rattle.list.specs.Parse.{parse, good}
 use Rattle.catalogue.specs.Format.{legal}
+use Rattle.catalogue.proofs.Bytes.{zeros}
 use Rattle.table.specs.Slots.{slotCount, paramCount, Shaped, freshSlot, emptySlot, emptyTable, noSlot, slotAt, slotOf}
 use Rattle.table.specs.Lawful.{lawful}
 use Rattle.table.specs.declared.Table.{Table}
@@ -90,13 +91,8 @@ payload-bytes : (s : List ℕ) → Bytes s → (n : ℕ) → Bytes (payloadIn (d
 payload-bytes s h n = take-bytes n (drop 2 (decoded s .message)) (drop-bytes 2 (decoded s .message) (message-bytes s h))
 
 -- EACH ROW IS WHAT ITS TYPE SAYS
-no-bits : (n p : ℕ) → getD {A = ℕ} (replicate n 0) p 0 ≡ 0
-no-bits zero p = refl
-no-bits (suc n) zero = refl
-no-bits (suc n) (suc p) = no-bits n p
-
 fresh-ranged : (taken : Bool) (socket device year uid : ℕ) → device < 256 → RangedSlot (freshSlot taken socket device year uid)
-fresh-ranged taken socket device year uid l = record { device-byte = l; words = λ p. rw (no-bits paramCount p) (omega arith) }
+fresh-ranged taken socket device year uid l = record { device-byte = l; words = λ p. rw (zeros paramCount p) (omega arith) }
 
 stored-ranged :
     (c : List ℕ) (t : Table) (payload : List ℕ) (i : ℕ) → Reached c t → Bytes payload → i < slotCount →

@@ -1,7 +1,7 @@
 -- Laws of tests.
 use Prim.Native.Nat.{ℕ, zero, suc, _<_}
 use mathlib.Core.Path.{_≡_, refl, sym, ap}
-use mathlib.Core.Bool.{Bool, true, false, not, cond, _||_}
+use mathlib.Core.Bool.{Bool, true, false, not, cond, _&&_, _||_}
 use native.Mathlib.Omega.{arith}
 use Rattle.wire.specs.Every.{every}
 use Rattle.wire.proofs.Chains.{and-true}
@@ -17,6 +17,12 @@ imply false b h e = never (sym e)
 pub implied : (a b : Bool) → (a ≡ true → b ≡ true) → (not a || b) ≡ true
 implied true b h = h refl
 implied false b h = refl
+
+-- one of two tests, by a third
+pub either : (a b c : Bool) → ((a && b) || (not a && c)) ≡ cond a b c
+either true true c = refl
+either true false c = refl
+either false b c = refl
 
 -- what holds at each index holds at every one
 pub every-of : (n : ℕ) (test : ℕ → Bool) → ((i : ℕ) → i < n → test i ≡ true) → every n test ≡ true

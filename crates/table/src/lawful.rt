@@ -5,60 +5,47 @@ use crate::SLOTS;
 use crate::SOCKETS;
 use crate::Slot;
 use crate::Table;
-use catalogue::Device;
-use catalogue::Parameter;
 ghost use Prim.Native.Nat.{_<_};
 ghost use mathlib.Core.Path.{_≡_};
+ghost use lib.ListN.{getD};
 ghost use Rattle.wire.specs.Every.{every};
-ghost use Rattle.catalogue.specs.Lookup.{parameterIn};
+ghost use Rattle.catalogue.specs.Format.{described};
 ghost use Rattle.table.specs.Slots.{slotCount, paramCount, slotAt};
 ghost use Rattle.table.specs.Lawful.{presentAt, bitsAt, valueLawful, nothingHeld, slotLawful, slotsDiffer, lawfulAt, lawful, admitted};
 
-fn is_lawful_value(p: Parameter, present: bool, bits: u32) -> bool
-    ensures { λ r. ⌜ r ≡ valueLawful p present bits ⌝ }
+// A value by its parameter's byte.
+fn is_lawful_value(b: u8, present: bool, bits: u32) -> bool
+    ensures { λ r. ⌜ r ≡ valueLawful (described b) present bits ⌝ }
 {
-    if present {
-        if p.readable {
-            if p.kind == catalogue::BOOL {
-                return bits <= 1;
-            }
-            return true;
-        }
-        return false;
-    }
-    bits == 0
+    let p = catalogue::describe(b);
+    let held = p.readable & ((p.kind != catalogue::BOOL) | (bits <= 1));
+    (present & held) | (!present & (bits == 0))
 }
 
-// The values of a slot with this device type.
-fn are_lawful_values(c: &[u8], d: Device, s: Slot) -> bool
-    ensures { λ r. ⌜ r ≡ every paramCount (λ p. valueLawful (parameterIn (now (c .entry)) d p) (presentAt s p) (bitsAt s p)) ⌝ }
+// The values of a slot whose parameters have these bytes. Here and below every parameter is looked at, so that the loop has
+// one exit and can run on several at once.
+fn are_lawful_values(bytes: [u8; PARAMS], s: Slot) -> bool
+    ensures { λ r. ⌜ r ≡ every paramCount (λ p. valueLawful (described (getD bytes p 0)) (presentAt s p) (bitsAt s p)) ⌝ }
 {
+    let mut lawful = true;
     let mut i = 0;
     while i < PARAMS {
-        let p = catalogue::parameter_of(c, d, i);
-        if is_lawful_value(p, s.present[i], s.bits[i]) {
-            i += 1;
-        } else {
-            return false;
-        }
+        lawful = lawful & is_lawful_value(bytes[i], s.present[i], s.bits[i]);
+        i += 1;
     }
-    true
+    lawful
 }
 
 fn holds_nothing(s: Slot) -> bool
     ensures { λ r. ⌜ r ≡ every paramCount (nothingHeld s) ⌝ }
 {
+    let mut nothing = true;
     let mut i = 0;
     while i < PARAMS {
-        if s.present[i] {
-            return false;
-        }
-        if s.bits[i] != 0 {
-            return false;
-        }
+        nothing = nothing & (!s.present[i] & (s.bits[i] == 0));
         i += 1;
     }
-    true
+    nothing
 }
 
 fn is_lawful_slot(c: &[u8], s: Slot) -> bool
@@ -68,7 +55,8 @@ fn is_lawful_slot(c: &[u8], s: Slot) -> bool
         if s.socket < SOCKETS {
             let d = catalogue::find_device(c, s.device);
             if d.known {
-                return are_lawful_values(c, d, s);
+                let bytes = catalogue::parameter_bytes(c, d);
+                return are_lawful_values(bytes, s);
             }
         }
         return false;

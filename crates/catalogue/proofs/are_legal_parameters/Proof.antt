@@ -6,7 +6,7 @@ use lib.ListN.{length, getD}
 use borrow.Author.Needs.{needs}
 use Rattle.wire.specs.Every.{every}
 use Rattle.catalogue.specs.Format.{parameterLegal}
-use Rattle.catalogue.proofs.Steps.{every-next}
+use Rattle.catalogue.proofs.Steps.{every-grow}
 use Rattle.catalogue.proofs.are_legal_parameters.Statement.{statement}
 use Rattle.catalogue.proofs.are_legal_parameters.Tie as tie
 
@@ -33,7 +33,7 @@ loop-less : tie.Need-loop-less Inv-loop μ-loop
 loop-less c = search needs
 
 loop-again : tie.Need-loop-again Inv-loop μ-loop
-loop-again c = (search needs, rw (every-next, ← c .is-legal-parameter .ensures, ← c .before .before .before .loop .inv .1))
+loop-again c = (search needs, every-grow _ _ (c .before .before .before .loop .inv .1) (c .is-legal-parameter .ensures))
 
 returns : tie.Need-returns Inv-loop μ-loop
 returns c = let e : c .before .loop .i ≡ length (c .before .before .before .args .bytes .now) = omega arith in rw (← e) (c .before .loop .inv .1)

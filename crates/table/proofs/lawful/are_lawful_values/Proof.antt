@@ -1,29 +1,30 @@
--- `table::lawful::are_lawful_values` meets its contract. Invariant: the first i values are lawful.
+-- `table::lawful::are_lawful_values` meets its contract. Invariant: the flag speaks of the first i values.
 use Prim.Native.Nat.{_-_, _≤_}
-use mathlib.Core.Bool.{true}
-use mathlib.Core.Path.{_≡_, refl, sym, _∙_}
+use mathlib.Core.Path.{_≡_, refl}
 use native.Mathlib.Omega.{arith}
+use lib.ListN.{getD}
 use borrow.Author.Needs.{needs}
-use Rattle.wire.proofs.Chains.{every-all, every-more, every-stop}
 use Rattle.wire.specs.Every.{every}
-use Rattle.catalogue.specs.Lookup.{parameterIn}
+use Rattle.catalogue.specs.Format.{described}
+use Rattle.catalogue.proofs.Steps.{every-grow}
 use Rattle.table.specs.Lawful.{presentAt, bitsAt, valueLawful}
 use Rattle.table.specs.Slots.{paramCount}
 use Rattle.table.proofs.lawful.are_lawful_values.Statement.{statement}
 use Rattle.table.proofs.lawful.are_lawful_values.Tie as tie
 
 abbrev Inv-loop : tie.InvT-loop
-Inv-loop c d s i₀ i = (i ≤ paramCount) × (every i (λ p. valueLawful (parameterIn c d p) (presentAt s p) (bitsAt s p)) ≡ true)
+Inv-loop bytes s lawful₀ i₀ lawful i =
+    (i ≤ paramCount) × (lawful ≡ every i (λ p. valueLawful (described (getD bytes p 0)) (presentAt s p) (bitsAt s p)))
 
 abbrev μ-loop : tie.MeasureT-loop
-μ-loop c d s i₀ i = paramCount - i
+μ-loop bytes s lawful₀ i₀ lawful i = paramCount - i
 
 loop-holds : tie.Need-loop-holds Inv-loop μ-loop
 unfolding every
 loop-holds c = (omega arith, refl)
 
-parameter-of-requires : tie.Need-parameter-of-requires Inv-loop μ-loop
-parameter-of-requires c κs = search needs
+array-read-is-lawful-value : tie.Need-array-read-is-lawful-value Inv-loop μ-loop
+array-read-is-lawful-value c = search needs
 
 element-copy-out-is-lawful-value : tie.Need-element-copy-out-is-lawful-value Inv-loop μ-loop
 element-copy-out-is-lawful-value c = search needs
@@ -44,17 +45,10 @@ loop-less : tie.Need-loop-less Inv-loop μ-loop
 loop-less c = search needs
 
 loop-again : tie.Need-loop-again Inv-loop μ-loop
-loop-again c = (
-  omega arith,
-  every-more _ _ (c .before .before .before .before .before .before .loop .inv .1) (rw (← c .before .before .before .before .parameter-of .ensures) (sym (c .before .is-lawful-value .ensures) ∙ c .if1 .taken)),
-)
+loop-again c = (omega arith, every-grow _ _ (c .before .before .before .before .loop .inv .1) (c .is-lawful-value .ensures))
 
 returns : tie.Need-returns Inv-loop μ-loop
-returns c =
-    every-stop paramCount (c .before .before .before .before .before .before .loop .i) _ (c .before .before .before .before .before .loop-test .taken) (rw (← c .before .before .before .before .parameter-of .ensures) (sym (c .before .is-lawful-value .ensures) ∙ c .if1 .left))
-
-returns-2 : tie.Need-returns-2 Inv-loop μ-loop
-returns-2 c = every-all paramCount _ _ (c .before .loop .inv .0) (c .loop-test .left) (c .before .loop .inv .1)
+returns c = let e : c .before .loop .i ≡ paramCount = omega arith in rw (← e) (c .before .loop .inv .1)
 
 pub are-lawful-values-spec : {M : Type 1} → statement M
 are-lawful-values-spec =
@@ -63,7 +57,7 @@ are-lawful-values-spec =
     Inv-loop
     μ-loop
     loop-holds
-    parameter-of-requires
+    array-read-is-lawful-value
     element-copy-out-is-lawful-value
     mul-is-lawful-value
     element-copy-out-is-lawful-value-2
@@ -71,5 +65,4 @@ are-lawful-values-spec =
     add-i
     loop-less
     loop-again
-    returns
-    returns-2)
+    returns)

@@ -1,17 +1,17 @@
 -- `table::lawful::is_lawful_slot` meets its contract, by the tests that lead to each answer.
-use mathlib.Core.Path.{ap, _∙_}
+use mathlib.Core.Path.{_∙_}
 use borrow.Author.Needs.{needs}
 use borrow.Author.Tests.{eq-eqb, ne-eqb, lt-ltb, le-ltb}
-use Rattle.wire.specs.Every.{every}
-use Rattle.catalogue.specs.Lookup.{parameterIn}
-use Rattle.catalogue.specs.declared.Device.{Device}
-use Rattle.table.specs.Lawful.{presentAt, bitsAt, valueLawful, heldLawful, slotLawful}
-use Rattle.table.specs.Slots.{paramCount}
+use Rattle.table.specs.Lawful.{heldLawful, slotLawful}
+use Rattle.table.proofs.ByBytes.{values-by-bytes}
 use Rattle.table.proofs.lawful.is_lawful_slot.Statement.{statement}
 use Rattle.table.proofs.lawful.is_lawful_slot.Tie as tie
 
 find-device-requires : tie.Need-find-device-requires
 find-device-requires c κs = search needs
+
+parameter-bytes-requires : tie.Need-parameter-bytes-requires
+parameter-bytes-requires c κs = search needs
 
 are-lawful-values-requires : tie.Need-are-lawful-values-requires
 are-lawful-values-requires c κs = search needs
@@ -19,15 +19,15 @@ are-lawful-values-requires c κs = search needs
 returns : tie.Need-returns
 unfolding slotLawful heldLawful
 returns c =
-    let a = c .before .before .before .before .before .before .before .args in
-    let f = c .before .before .find-device .ensures in
+    let a = c .before .before .before .before .before .before .before .before .args in
+    let f = c .before .before .before .find-device .ensures in
     rw (
-      lt-ltb _ _ (c .before .before .before .if2 .taken),
+      lt-ltb _ _ (c .before .before .before .before .if2 .taken),
       ← f,
-      c .before .if3 .taken,
-      c .before .before .before .before .before .if1 .taken,
+      c .before .before .if3 .taken,
+      c .before .before .before .before .before .before .if1 .taken,
     )
-    (c .are-lawful-values .ensures ∙ ap (λ (d : Device). every paramCount (λ p. valueLawful (parameterIn (a .c .now) d p) (presentAt (a .s) p) (bitsAt (a .s) p))) f)
+    (c .are-lawful-values .ensures ∙ values-by-bytes (a .c .now) (a .s) (c .before .parameter-bytes .result) (rw f at (c .before .parameter-bytes .ensures)))
 
 returns-2 : tie.Need-returns-2
 unfolding slotLawful
@@ -93,6 +93,7 @@ is-lawful-slot-spec =
     tie.close
     (tie.spec
     find-device-requires
+    parameter-bytes-requires
     are-lawful-values-requires
     returns
     returns-2
