@@ -7,11 +7,13 @@ use table::Table;
 use table::Update;
 ghost use Prim.Native.Nat.{_≤_, _<_};
 ghost use mathlib.Core.Path.{_≡_};
-ghost use lib.Dec.{eqb};
+ghost use mathlib.Core.Bool.{_&&_, _||_, not, cond};
+ghost use lib.Dec.{leb, eqb};
 ghost use Rattle.wire.specs.Number.{numberAt};
-ghost use Rattle.catalogue.specs.Lookup.{parameterOf};
+ghost use Rattle.catalogue.specs.Format.{kindBool, described};
+ghost use Rattle.catalogue.specs.Lookup.{deviceOf, BytesIn};
 ghost use Rattle.table.specs.Slots.{slotCount, paramCount};
-ghost use Rattle.parameters.specs.Data.{width, spanIf, sizeOf, readableIf, allReadable, flagIf, allFlags, judged, withValue, storeIf, storedTo, appliedTo, dataSized, appliedBy, applied};
+ghost use Rattle.parameters.specs.Data.{width, sizeOf, allReadable, allFlags, judged, storedTo, appliedTo, dataSized, appliedBy, applied};
 
 // The bytes before the first value: the map's.
 const MAP_BYTES: usize = 4;
@@ -45,24 +47,27 @@ fn value_at(kind: u8, payload: &[u8], at: usize) -> u32
     wire::byte_at(payload, at) as u32
 }
 
-fn is_readable_if(c: &[u8], device: u8, p: usize, bit: u32) -> bool
-    ensures { λ r. ⌜ r ≡ readableIf (now (c .entry)) device p (eqb bit 1) ⌝ }
+// What follows for one parameter goes by its byte in the catalogue and its bit in the map.
+fn is_readable_if(b: u8, bit: u32) -> bool
+    ensures { λ r. ⌜ r ≡ (not (eqb bit 1) || described b .readable) ⌝ }
 {
     if bit == 1 {
-        let q = catalogue::find_parameter(c, device, p);
+        let q = catalogue::describe(b);
         return q.readable;
     }
     true
 }
 
-// 16: each parameter that the map names is readable.
-fn are_readable(c: &[u8], device: u8, map: u32) -> bool
+// 16: each parameter that the map names is readable. Here and below `bytes` are those of the device type; the contract alone
+// asks for the catalogue.
+fn are_readable(c: &[u8], device: u8, bytes: [u8; PARAMS], map: u32) -> bool
+    requires { ⌜ BytesIn (now c) (deviceOf (now c) device) bytes ⌝ }
     ensures { λ r. ⌜ r ≡ allReadable (now (c .entry)) device map ⌝ }
 {
     let mut rest = map;
     let mut p: usize = 0;
     while p < PARAMS {
-        if is_readable_if(c, device, p, rest % 2) {
+        if is_readable_if(bytes[p], rest % 2) {
             rest = rest / 2;
             p += 1;
         } else {
@@ -72,37 +77,38 @@ fn are_readable(c: &[u8], device: u8, map: u32) -> bool
     true
 }
 
-// How many bytes parameter p takes in the packet.
-fn span_if(c: &[u8], device: u8, p: usize, bit: u32) -> usize
-    ensures { λ r. ⌜ (r ≡ spanIf (now (c .entry)) device p (eqb bit 1)) × (r ≤ 4) ⌝ }
+// How many bytes the parameter takes in the packet.
+fn span_if(b: u8, bit: u32) -> usize
+    ensures { λ r. ⌜ (r ≡ cond (eqb bit 1) (width (described b .kind)) 0) × (r ≤ 4) ⌝ }
 {
     if bit == 1 {
-        let q = catalogue::find_parameter(c, device, p);
+        let q = catalogue::describe(b);
         return width_of(q.kind);
     }
     0
 }
 
 // 17: how many bytes a payload with this map has.
-fn size_of(c: &[u8], device: u8, map: u32) -> usize
+fn size_of(c: &[u8], device: u8, bytes: [u8; PARAMS], map: u32) -> usize
+    requires { ⌜ BytesIn (now c) (deviceOf (now c) device) bytes ⌝ }
     ensures { λ r. ⌜ r ≡ sizeOf (now (c .entry)) device map ⌝ }
 {
     let mut rest = map;
     let mut at: usize = MAP_BYTES;
     let mut p: usize = 0;
     while p < PARAMS {
-        at += span_if(c, device, p, rest % 2);
+        at += span_if(bytes[p], rest % 2);
         rest = rest / 2;
         p += 1;
     }
     at
 }
 
-fn is_flag_if(c: &[u8], device: u8, p: usize, bit: u32, payload: &[u8], at: usize) -> bool
-    ensures { λ r. ⌜ r ≡ flagIf (now (c .entry)) device p (eqb bit 1) (numberAt (width (parameterOf (now (c .entry)) device p .kind)) (now (payload .entry)) at) ⌝ }
+fn is_flag_if(b: u8, bit: u32, payload: &[u8], at: usize) -> bool
+    ensures { λ r. ⌜ r ≡ (not (eqb bit 1 && eqb (described b .kind) kindBool) || leb (numberAt (width (described b .kind)) (now (payload .entry)) at) 1) ⌝ }
 {
     if bit == 1 {
-        let q = catalogue::find_parameter(c, device, p);
+        let q = catalogue::describe(b);
         if q.kind == catalogue::BOOL {
             let v = value_at(q.kind, payload, at);
             return v <= 1;
@@ -112,15 +118,16 @@ fn is_flag_if(c: &[u8], device: u8, p: usize, bit: u32, payload: &[u8], at: usiz
 }
 
 // 18: each BOOL that the map names is 0 or 1.
-fn are_flags(c: &[u8], device: u8, map: u32, payload: &[u8]) -> bool
+fn are_flags(c: &[u8], device: u8, bytes: [u8; PARAMS], map: u32, payload: &[u8]) -> bool
+    requires { ⌜ BytesIn (now c) (deviceOf (now c) device) bytes ⌝ }
     ensures { λ r. ⌜ r ≡ allFlags (now (c .entry)) device map (now (payload .entry)) ⌝ }
 {
     let mut rest = map;
     let mut at: usize = MAP_BYTES;
     let mut p: usize = 0;
     while p < PARAMS {
-        if is_flag_if(c, device, p, rest % 2, payload, at) {
-            at += span_if(c, device, p, rest % 2);
+        if is_flag_if(bytes[p], rest % 2, payload, at) {
+            at += span_if(bytes[p], rest % 2);
             rest = rest / 2;
             p += 1;
         } else {
@@ -130,13 +137,14 @@ fn are_flags(c: &[u8], device: u8, map: u32, payload: &[u8]) -> bool
     true
 }
 
-fn judge(c: &[u8], device: u8, payload: &[u8]) -> Answer
+fn judge(c: &[u8], device: u8, bytes: [u8; PARAMS], payload: &[u8]) -> Answer
+    requires { ⌜ BytesIn (now c) (deviceOf (now c) device) bytes ⌝ }
     ensures { λ r. ⌜ r ≡ judged (now (c .entry)) device (now (payload .entry)) ⌝ }
 {
     let map = numbers::u32_at(payload, 0);
-    if are_readable(c, device, map) {
-        if size_of(c, device, map) == payload.len() {
-            if are_flags(c, device, map, payload) {
+    if are_readable(c, device, bytes, map) {
+        if size_of(c, device, bytes, map) == payload.len() {
+            if are_flags(c, device, bytes, map, payload) {
                 return Answer::Accepted;
             }
             return Answer::Refused(18);
@@ -146,30 +154,9 @@ fn judge(c: &[u8], device: u8, payload: &[u8]) -> Answer
     Answer::Refused(16)
 }
 
-fn put_value(s: Slot, p: usize, v: u32) -> Slot
-    requires { ⌜ p < paramCount ⌝ }
-    ensures { λ r. ⌜ r ≡ withValue s p v ⌝ }
-{
-    let mut t = s;
-    t.present[p] = true;
-    t.bits[p] = v;
-    t
-}
-
-fn store_if(c: &[u8], device: u8, p: usize, bit: u32, payload: &[u8], at: usize, s: Slot) -> Slot
-    requires { ⌜ p < paramCount ⌝ }
-    ensures { λ r. ⌜ r ≡ storeIf (eqb bit 1) s p (numberAt (width (parameterOf (now (c .entry)) device p .kind)) (now (payload .entry)) at) ⌝ }
-{
-    if bit == 1 {
-        let q = catalogue::find_parameter(c, device, p);
-        let v = value_at(q.kind, payload, at);
-        return put_value(s, p, v);
-    }
-    s
-}
-
 // The row with the values that the payload has.
-fn store(c: &[u8], device: u8, map: u32, payload: &[u8], s: Slot) -> Slot
+fn store(c: &[u8], device: u8, bytes: [u8; PARAMS], map: u32, payload: &[u8], s: Slot) -> Slot
+    requires { ⌜ BytesIn (now c) (deviceOf (now c) device) bytes ⌝ }
     ensures { λ r. ⌜ r ≡ storedTo (now (c .entry)) device map (now (payload .entry)) s paramCount ⌝ }
 {
     let mut t = s;
@@ -177,8 +164,13 @@ fn store(c: &[u8], device: u8, map: u32, payload: &[u8], s: Slot) -> Slot
     let mut at: usize = MAP_BYTES;
     let mut p: usize = 0;
     while p < PARAMS {
-        t = store_if(c, device, p, rest % 2, payload, at, t);
-        at += span_if(c, device, p, rest % 2);
+        if rest % 2 == 1 {
+            let q = catalogue::describe(bytes[p]);
+            let v = value_at(q.kind, payload, at);
+            t.present[p] = true;
+            t.bits[p] = v;
+            at += width_of(q.kind);
+        }
         rest = rest / 2;
         p += 1;
     }
@@ -190,11 +182,14 @@ fn apply_at(c: &[u8], t: Table, i: usize, payload: &[u8]) -> Update
     ensures { λ r. ⌜ r ≡ appliedTo (now (c .entry)) t (now (payload .entry)) i ⌝ }
 {
     let s = t.slots[i];
-    let a = judge(c, s.device, payload);
+    let device = s.device;
+    let d = catalogue::find_device(c, device);
+    let bytes = catalogue::parameter_bytes(c, d);
+    let a = judge(c, device, bytes, payload);
     match a {
         Answer::Accepted => {
             let map = numbers::u32_at(payload, 0);
-            let n = store(c, s.device, map, payload, s);
+            let n = store(c, device, bytes, map, payload, s);
             let mut u = t;
             u.slots[i] = n;
             Update {

@@ -10,8 +10,14 @@ mul-s c = search needs
 element-copy-out-s : tie.Need-element-copy-out-s
 element-copy-out-s c = search needs
 
+find-device-requires : tie.Need-find-device-requires
+find-device-requires c κs = search needs
+
+parameter-bytes-requires : tie.Need-parameter-bytes-requires
+parameter-bytes-requires c κs = search needs
+
 judge-requires : tie.Need-judge-requires
-judge-requires c κs = search needs
+judge-requires c κs = rw (c .before .find-device .ensures) at (c .parameter-bytes .ensures)
 
 enum-told : tie.Need-enum-told
 enum-told c = search needs
@@ -20,7 +26,7 @@ u32-at-requires : tie.Need-u32-at-requires
 u32-at-requires c κs = search needs
 
 store-requires : tie.Need-store-requires
-store-requires c κs = search needs
+store-requires c κs = rw (c .before .before .before .before .before .find-device .ensures) at (c .before .before .before .before .parameter-bytes .ensures)
 
 mul-n : tie.Need-mul-n
 mul-n c = search needs
@@ -54,6 +60,8 @@ apply-at-spec =
     (tie.spec
     mul-s
     element-copy-out-s
+    find-device-requires
+    parameter-bytes-requires
     judge-requires
     enum-told
     u32-at-requires

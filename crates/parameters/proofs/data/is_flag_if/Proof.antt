@@ -1,11 +1,13 @@
 -- `parameters::data::is_flag_if` meets its contract, by the map's bit and the kind.
+use mathlib.Core.Path.{ap}
 use borrow.Author.Needs.{needs}
 use borrow.Author.Tests.{eq-eqb, ne-eqb}
+use Rattle.catalogue.specs.declared.Parameter.{Parameter}
 use Rattle.parameters.proofs.data.is_flag_if.Statement.{statement}
 use Rattle.parameters.proofs.data.is_flag_if.Tie as tie
 
-find-parameter-requires : tie.Need-find-parameter-requires
-find-parameter-requires c κs = search needs
+describe-requires : tie.Need-describe-requires
+describe-requires c κs = search needs
 
 value-at-requires : tie.Need-value-at-requires
 value-at-requires c κs = search needs
@@ -14,7 +16,7 @@ returns : tie.Need-returns
 returns c =
     rw (
       eq-eqb _ _ (c .before .before .before .before .if1 .taken),
-      ← c .before .before .before .find-parameter .ensures,
+      ← ap (λ (q : Parameter). q .kind) (c .before .before .before .describe .ensures),
       eq-eqb _ _ (c .before .if2 .taken),
       ← c .value-at .ensures,
     )
@@ -23,7 +25,7 @@ returns-2 : tie.Need-returns-2
 returns-2 c =
     rw (
       eq-eqb _ _ (c .before .before .before .if1 .taken),
-      ← c .before .before .find-parameter .ensures,
+      ← ap (λ (q : Parameter). q .kind) (c .before .before .describe .ensures),
       ne-eqb _ _ (c .if2 .left),
     )
 
@@ -32,4 +34,4 @@ returns-3 c = rw (ne-eqb _ _ (c .if1 .left))
 
 pub is-flag-if-spec : {M : Type 1} → statement M
 is-flag-if-spec =
-    tie.close (tie.spec find-parameter-requires value-at-requires returns returns-2 returns-3)
+    tie.close (tie.spec describe-requires value-at-requires returns returns-2 returns-3)

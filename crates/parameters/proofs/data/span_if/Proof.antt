@@ -5,17 +5,17 @@ use borrow.Author.Tests.{eq-eqb, ne-eqb}
 use Rattle.parameters.proofs.data.span_if.Statement.{statement}
 use Rattle.parameters.proofs.data.span_if.Tie as tie
 
-find-parameter-requires : tie.Need-find-parameter-requires
-find-parameter-requires c κs = search needs
+describe-requires : tie.Need-describe-requires
+describe-requires c κs = search needs
 
 width-of-requires : tie.Need-width-of-requires
 width-of-requires c κs = search needs
 
 returns : tie.Need-returns
-returns c = rw (eq-eqb _ _ (c .before .before .if1 .taken), ← c .before .find-parameter .ensures) (c .width-of .ensures)
+returns c = rw (eq-eqb _ _ (c .before .before .if1 .taken)) (rw (c .before .describe .ensures) at (c .width-of .ensures))
 
 returns-2 : tie.Need-returns-2
 returns-2 c = (rw (ne-eqb _ _ (c .if1 .left)), omega arith)
 
 pub span-if-spec : {M : Type 1} → statement M
-span-if-spec = tie.close (tie.spec find-parameter-requires width-of-requires returns returns-2)
+span-if-spec = tie.close (tie.spec describe-requires width-of-requires returns returns-2)
