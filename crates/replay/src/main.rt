@@ -1,5 +1,4 @@
 // Replays captured packets and other calls against one hub: records from standard input, a line of output for each.
-mod line;
 mod play;
 mod record;
 mod table_bytes;

@@ -1,5 +1,4 @@
 // The records are played one after the other against one table.
-use super::line;
 use super::record;
 use super::record::DETACH;
 use super::record::LOAD;
@@ -12,15 +11,12 @@ use hub::Answer;
 use hub::Published;
 use hub::Receipt;
 use hub::Table;
-use libc::STDOUT_FILENO;
 use list::LIST_LIMIT;
 ghost use mathlib.Core.Path.{_≡_};
 ghost use Rattle.replay.specs.Record.{recordSize, Whole};
 
-// Output is collected, and written when less room is left than a line may take: two digits for each byte of a list.
+// Output is collected, and written when less room is left than a line may take.
 const OUTPUT_ROOM: usize = 32768;
-
-const LINE_ROOM: usize = 8448;
 
 // The table and the bytes of output after a record.
 struct Played {
@@ -30,8 +26,8 @@ struct Played {
 
 fn put_receipt(out: &mut [u8], used: usize, a: Receipt) -> usize {
     match a {
-        Receipt::Accepted(n) => line::put_line(out, used, b"took ", n as u64),
-        Receipt::Refused(error) => line::put_line(out, used, b"refused ", error as u64),
+        Receipt::Accepted(n) => text::put_line(out, used, b"took ", n as u64),
+        Receipt::Refused(error) => text::put_line(out, used, b"refused ", error as u64),
     }
 }
 
@@ -55,8 +51,8 @@ fn receive(
 
 fn put_detached(out: &mut [u8], used: usize, a: Answer) -> usize {
     match a {
-        Answer::Accepted => line::put(out, used, b"left\n"),
-        Answer::Refused(error) => line::put_line(out, used, b"refused ", error as u64),
+        Answer::Accepted => text::put(out, used, b"left\n"),
+        Answer::Refused(error) => text::put_line(out, used, b"refused ", error as u64),
     }
 }
 
@@ -78,10 +74,10 @@ fn read(catalogue: &[u8], t: Table, socket: u8, index: u8, out: &mut [u8], used:
 }
 
 fn put_published(out: &mut [u8], used: usize, list: &[u8], n: usize) -> usize {
-    let a = line::put_number(&mut *out, used, b"posted ", n as u64);
-    let b = line::put(&mut *out, a, b" ");
-    let c = line::put_front(&mut *out, b, list, n);
-    line::put(&mut *out, c, b"\n")
+    let a = text::put_number(&mut *out, used, b"posted ", n as u64);
+    let b = text::put(&mut *out, a, b" ");
+    let c = text::put_front(&mut *out, b, list, n);
+    text::put(&mut *out, c, b"\n")
 }
 
 fn publish(catalogue: &[u8], t: Table, out: &mut [u8], used: usize) -> usize {
@@ -89,7 +85,7 @@ fn publish(catalogue: &[u8], t: Table, out: &mut [u8], used: usize) -> usize {
     let p = hub::publish(catalogue, t, &mut list);
     match p {
         Published::Written(n) => put_published(out, used, &list, n),
-        Published::Refused(error) => line::put_line(out, used, b"refused ", error as u64),
+        Published::Refused(error) => text::put_line(out, used, b"refused ", error as u64),
     }
 }
 
@@ -100,14 +96,14 @@ fn show_list(catalogue: &[u8], t: Table, out: &mut [u8], used: usize) -> Played 
 
 fn load(record: &[u8], out: &mut [u8], used: usize) -> Played {
     let t = table_bytes::table_in(record);
-    let n = line::put(out, used, b"loaded\n");
+    let n = text::put(out, used, b"loaded\n");
     Played { table: t, used: n }
 }
 
 fn show_table(t: Table, out: &mut [u8], used: usize) -> Played {
-    let a = line::put(&mut *out, used, b"table ");
+    let a = text::put(&mut *out, used, b"table ");
     let b = table_bytes::put_table(&mut *out, a, t);
-    let c = line::put(&mut *out, b, b"\n");
+    let c = text::put(&mut *out, b, b"\n");
     Played { table: t, used: c }
 }
 
@@ -132,21 +128,6 @@ fn play(catalogue: &[u8], t: Table, s: &[u8], size: usize, out: &mut [u8], used:
     }
 }
 
-fn flush(out: &[u8], used: usize) {
-    if used <= out.len() {
-        io::write_all(STDOUT_FILENO, &out[..used]);
-    }
-}
-
-// Room for a line: what is collected is written where too little is left.
-fn flush_if_full(out: &[u8], used: usize) -> usize {
-    if OUTPUT_ROOM - LINE_ROOM < used {
-        flush(out, used);
-        return 0;
-    }
-    used
-}
-
 // Plays all records. A bad one ends the program.
 fn play_all(catalogue: &[u8], records: &[u8], out: &mut [u8]) {
     let mut used: usize = 0;
@@ -154,7 +135,7 @@ fn play_all(catalogue: &[u8], records: &[u8], out: &mut [u8]) {
     let mut at: usize = 0;
     let mut k: usize = 1;
     while at < records.len() {
-        used = flush_if_full(&*out, used);
+        used = text::flush_if_full(&*out, used);
         if record::is_good(&records[at..]) {
             let size = record::size_of(&records[at..]);
             let p = play(catalogue, t, &records[at..], size, &mut *out, used);
@@ -163,12 +144,12 @@ fn play_all(catalogue: &[u8], records: &[u8], out: &mut [u8]) {
             at += size;
             k += 1;
         } else {
-            used = line::put_line(&mut *out, used, b"bad record ", k as u64);
-            flush(&*out, used);
+            used = text::put_line(&mut *out, used, b"bad record ", k as u64);
+            text::flush(&*out, used);
             return;
         }
     }
-    flush(&*out, used);
+    text::flush(&*out, used);
 }
 
 // Replays an input: the catalogue behind its two-byte length, then records. Where the catalogue is cut short there are none.

@@ -1,5 +1,4 @@
 // A table as 688 bytes: four slots of 172, each taken, socket, type, year, UID (8), presence (32), bits (32 numbers of 4 bytes).
-use super::line;
 use hub::Slot;
 use hub::Table;
 ghost use Prim.Native.Nat.{_≤_};
@@ -20,7 +19,7 @@ fn put_presence(out: &mut [u8], used: usize, s: Slot) -> usize {
     let mut at = used;
     let mut p: usize = 0;
     while p < hub::PARAMS {
-        at = line::put_byte(&mut *out, at, flag_byte(s.present[p]));
+        at = text::put_byte(&mut *out, at, flag_byte(s.present[p]));
         p += 1;
     }
     at
@@ -31,7 +30,7 @@ fn put_bits(out: &mut [u8], used: usize, s: Slot) -> usize {
     let mut p: usize = 0;
     while p < hub::PARAMS {
         let b = numbers::bytes32(s.bits[p]);
-        at = line::put_bytes(&mut *out, at, &b);
+        at = text::put_bytes(&mut *out, at, &b);
         p += 1;
     }
     at
@@ -39,9 +38,9 @@ fn put_bits(out: &mut [u8], used: usize, s: Slot) -> usize {
 
 fn put_slot(out: &mut [u8], used: usize, s: Slot) -> usize {
     let front = [flag_byte(s.taken), s.socket, s.device, s.year];
-    let at = line::put_bytes(&mut *out, used, &front);
+    let at = text::put_bytes(&mut *out, used, &front);
     let uid = numbers::bytes64(s.uid);
-    let behind_uid = line::put_bytes(&mut *out, at, &uid);
+    let behind_uid = text::put_bytes(&mut *out, at, &uid);
     let behind_presence = put_presence(&mut *out, behind_uid, s);
     put_bits(&mut *out, behind_presence, s)
 }

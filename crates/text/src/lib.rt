@@ -1,4 +1,9 @@
-// Text of the output, collected in a buffer. A part that does not fit is left out whole; play.rt keeps room for any line.
+// Text of a program's output, collected in a buffer. A part that does not fit is left out whole; `flush_if_full` keeps room for any line.
+use libc::STDOUT_FILENO;
+
+// The longest line: two digits for each byte of a list, and words around them.
+const LINE_ROOM: usize = 8448;
+
 pub fn put(out: &mut [u8], used: usize, text: &[u8]) -> usize {
     if used <= out.len() {
         if text.len() <= out.len() - used {
@@ -52,4 +57,22 @@ pub fn put_front(out: &mut [u8], used: usize, list: &[u8], n: usize) -> usize {
 pub fn put_line(out: &mut [u8], used: usize, label: &[u8], n: u64) -> usize {
     let at = put_number(&mut *out, used, label, n);
     put(&mut *out, at, b"\n")
+}
+
+// Writes what is collected to standard output.
+pub fn flush(out: &[u8], used: usize) {
+    if used <= out.len() {
+        io::write_all(STDOUT_FILENO, &out[..used]);
+    }
+}
+
+// Room for a line: what is collected is written where too little is left.
+pub fn flush_if_full(out: &[u8], used: usize) -> usize {
+    if LINE_ROOM <= out.len() {
+        if used <= out.len() - LINE_ROOM {
+            return used;
+        }
+    }
+    flush(out, used);
+    0
 }

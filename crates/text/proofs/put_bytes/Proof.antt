@@ -3,8 +3,8 @@ use Prim.Native.Nat.{_-_, _≤_}
 use mathlib.Core.Path.{_≡_}
 use lib.ListN.{length}
 use borrow.Author.Needs.{needs}
-use Rattle.replay.proofs.line.put_bytes.Statement.{statement}
-use Rattle.replay.proofs.line.put_bytes.Tie as tie
+use Rattle.text.proofs.put_bytes.Statement.{statement}
+use Rattle.text.proofs.put_bytes.Tie as tie
 
 abbrev Inv-loop : tie.InvT-loop
 Inv-loop out₀ used bytes at₀ i₀ out at i = (i ≤ length bytes) × (length out ≡ length out₀)

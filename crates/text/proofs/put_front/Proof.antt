@@ -3,8 +3,8 @@ use mathlib.Core.Path.{sym}
 use native.Mathlib.Omega.{arith}
 use lib.Seq.{length-take-le}
 use borrow.Author.Needs.{needs}
-use Rattle.replay.proofs.line.put_front.Statement.{statement}
-use Rattle.replay.proofs.line.put_front.Tie as tie
+use Rattle.text.proofs.put_front.Statement.{statement}
+use Rattle.text.proofs.put_front.Tie as tie
 
 slice-aggregate-put-bytes : tie.Need-slice-aggregate-put-bytes
 slice-aggregate-put-bytes c = sym (length-take-le _ _ (omega arith))
