@@ -12,8 +12,10 @@ pub mod hub;
 pub mod list;
 pub mod packet;
 pub mod random;
+mod records;
 pub mod replay;
 pub mod stream;
 pub mod table;
+pub mod write;
 
 pub use error::Error;

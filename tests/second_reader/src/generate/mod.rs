@@ -7,6 +7,7 @@ pub mod packet;
 pub mod replay;
 pub mod stream;
 pub mod table;
+pub mod write;
 
 use crate::random::Random;
 

@@ -32,9 +32,10 @@ fn sections() -> Vec<(Section, u64)> {
         #[cfg(feature = "list")]
         (list::SECTION, 400),
         #[cfg(feature = "stream")]
-        (stream::SECTION, 170),
+        (stream::SECTION, 140),
         (programs::RUN, 15),
         (programs::REPLAY, 15),
+        (programs::WRITE, 30),
     ]
 }
 

@@ -1,15 +1,18 @@
-//! The run and replay programs against the second reader: what each prints for an
-//! input. A case is one process.
+//! The run, replay and write programs against the second reader: what each prints for
+//! an input. A case is one process.
 
 use crate::options;
 use crate::report::{count_answer, hex, Difference, Section};
 use second_reader::generate::{
-    catalogue, list, replay as generate_replay, stream as generate_stream,
+    catalogue, list, replay as generate_replay, stream as generate_stream, write as generate_write,
 };
+use second_reader::list::LIST_LIMIT;
+use second_reader::packet::PACKET_ROOM;
 use second_reader::random::Random;
 use second_reader::replay::{replay_output, DETACH, PUBLISH, REPLAY_LIMIT};
 use second_reader::stream::{run_output, RUN_LIMIT};
 use second_reader::table::TABLE_BYTES;
+use second_reader::write::{write_output, WRITE_LIMIT};
 use std::io::Write;
 use std::path::PathBuf;
 use std::process::{Command, Output, Stdio};
@@ -18,6 +21,8 @@ pub const RUN: Section =
     Section { name: "run", progress: 500, enumerated: run_enumerated, random: run_case };
 pub const REPLAY: Section =
     Section { name: "replay", progress: 500, enumerated: replay_enumerated, random: replay_case };
+pub const WRITE: Section =
+    Section { name: "write", progress: 500, enumerated: write_enumerated, random: write_case };
 
 /// The folder of the programs: target/bin, or what CINDER_BIN_DIR names.
 fn programs() -> PathBuf {
@@ -70,7 +75,7 @@ fn check(program: &'static str, input: Vec<u8>, expected: &str) -> Result<u64, D
     })
 }
 
-/// Counts the answers in lines of either program; all but errors count as 0.
+/// Counts the answers in lines of any program; all but errors count as 0.
 fn count_lines(text: &str) {
     for line in text.lines() {
         let mut words = line.split(' ');
@@ -169,6 +174,61 @@ fn replay_catalogues() -> Result<u64, Difference> {
         input.extend(bytes);
         input.push(PUBLISH);
         checks += check_replay(input)?;
+    }
+    Ok(checks)
+}
+
+fn check_write(input: Vec<u8>) -> Result<u64, Difference> {
+    let expected = write_output(&input);
+    check("write", input, &expected)
+}
+
+fn write_case(random: &mut Random) -> Result<u64, Difference> {
+    check_write(generate_write::any(random))
+}
+
+/// As many records in one process as an input may hold.
+fn check_records(records: Vec<Vec<u8>>) -> Result<u64, Difference> {
+    let mut checks = 0;
+    let mut input = Vec::new();
+    for record in records {
+        if input.len() + record.len() > WRITE_LIMIT {
+            checks += check_write(std::mem::take(&mut input))?;
+        }
+        input.extend(record);
+    }
+    Ok(checks + check_write(input)?)
+}
+
+/// Every packet into buffers of each size, lists of every shape with each number changed,
+/// records cut at every byte, and inputs around the longest.
+fn write_enumerated() -> Result<u64, Difference> {
+    let mut checks = 0;
+    for buffer in [0, PACKET_ROOM - 1, PACKET_ROOM, PACKET_ROOM + 1] {
+        checks += check_records(generate_write::packets(buffer))?;
+    }
+    let mut random = Random::new(0);
+    for number in 0..60 {
+        let elements = match number % 6 {
+            0 => list::nested(&mut random, 8),
+            1 => list::nested(&mut random, 9),
+            _ => list::tree(&mut random, 8, 120),
+        };
+        let (rows, store) = list::rows_and_store(&elements);
+        let length = list::image(&elements).len();
+        checks += check_records(generate_write::list_and_changed(&rows, &store, length))?;
+    }
+    let packet = generate_write::packet_record(1, &[], PACKET_ROOM);
+    let list = generate_write::list_record(&[256, 1, 0, 12, 0, 2], &[7, 8], LIST_LIMIT);
+    for record in [packet, list] {
+        for there in 0..=record.len() {
+            checks += check_write(record[..there].to_vec())?;
+        }
+        for length in [WRITE_LIMIT - 1, WRITE_LIMIT, WRITE_LIMIT + 1, 2 * WRITE_LIMIT] {
+            let mut input = record.repeat(length / record.len());
+            input.resize(length, 0);
+            checks += check_write(input)?;
+        }
     }
     Ok(checks)
 }
