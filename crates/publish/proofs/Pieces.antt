@@ -5,7 +5,7 @@ use mathlib.Core.Bool.{true, false}
 use mathlib.Core.List.{List, [], _++_, append-nil}
 use native.Mathlib.Omega.{arith}
 use native.Mathlib.Nat.{zero-add}
-use lib.ListN.{length, length-append}
+use lib.ListN.{length, getD, length-append}
 use lib.Seq.{sets}
 use Rattle.wire.specs.Area.{over}
 use Rattle.wire.specs.Number.{leBytes}
@@ -15,8 +15,11 @@ use Rattle.list.specs.Tree as tree
 use Rattle.list.specs.Tree.{Elements, none, value, list, int, blob, count}
 use Rattle.list.specs.Bytes.{number, codeFor, listCodeOf, elementBytes, listBytes}
 use Rattle.list.proofs.Codes.{CodeIs, mixed, typed, code-is, code-none}
-use Rattle.catalogue.specs.Lookup.{parameterOf}
+use Rattle.catalogue.specs.Format.{described}
+use Rattle.catalogue.specs.Lookup.{deviceOf, BytesIn}
+use Rattle.catalogue.specs.declared.Device.{Device}
 use Rattle.catalogue.specs.declared.Parameter.{Parameter}
+use Rattle.catalogue.proofs.Bytes.{kind-is}
 use Rattle.value.specs.Meaning.{valueOf}
 use Rattle.value.specs.declared.Value.{Value}
 use Rattle.table.specs.Slots.{paramCount, socketCount, slotAt, slotOf}
@@ -107,11 +110,17 @@ device-put {l} {m} {n} {at} {end} {held} c s p h e =
     put-as (sym (device-bytes c s))
     (put-before l at (at + 40) (front s (count ps)) (elementBytes listCode ps) size p (e ∙ ap (λ (k : ℕ). sets m at (front s k)) h))
 
--- the value that value_of answers for a parameter's kind is the one that is held
+-- the bytes of a device type that was found by its number
+pub bytes-of :
+    (c : List ℕ) (number : ℕ) {d : Device} {bytes : List ℕ} → d ≡ deviceOf c number → BytesIn c d bytes →
+    BytesIn c (deviceOf c number) bytes
+bytes-of c number e h = rw e at h
+
+-- the value that value_of answers for a parameter's kind, by its byte, is the one that is held
 pub held-is :
-    (c : List ℕ) (s : Slot) (p : ℕ) {q : Parameter} {v : Value} → q ≡ parameterOf c (s .device) p → v ≡ valueOf (q .kind) (bitsAt s p) →
-    v ≡ heldValue c s p
-held-is c s p e f = f ∙ ap (λ (x : Parameter). valueOf (x .kind) (bitsAt s p)) e
+    (c : List ℕ) (s : Slot) (p : ℕ) {bytes : List ℕ} {q : Parameter} {v : Value} → BytesIn c (deviceOf c (s .device)) bytes → p < paramCount →
+    q ≡ described (getD bytes p 0) → v ≡ valueOf (q .kind) (bitsAt s p) → v ≡ heldValue c s p
+held-is c s p h l e f = f ∙ ap (λ (x : Parameter). valueOf (x .kind) (bitsAt s p)) e ∙ ap (λ (k : ℕ). valueOf k (bitsAt s p)) (sym (kind-is h p l))
 
 -- the parameters from p on: the first is held, or it is not
 pub parameters-held :

@@ -46,13 +46,14 @@ fn put_parameters(c: &[u8], s: Slot, buffer: &mut [u8], at: usize) -> Extent
     ensures { λ r. ⌜ Put (now (buffer .entry)) at (elementBytes listCode (parametersFrom paramCount (now (c .entry)) s 0)) (now (buffer .exit)) (r .end)
         × (r .count ≡ count (parametersFrom paramCount (now (c .entry)) s 0)) × (r .count ≤ 32) ⌝ }
 {
-    let device = s.device;
+    let d = catalogue::find_device(c, s.device);
+    let bytes = catalogue::parameter_bytes(c, d);
     let mut end = at;
     let mut count: u32 = 0;
     let mut p: usize = 0;
     while p < PARAMS {
         if s.present[p] {
-            let kind = catalogue::find_parameter(c, device, p).kind;
+            let kind = catalogue::describe(bytes[p]).kind;
             let v = value::value_of(kind, s.bits[p]);
             end = put_parameter(buffer, end, p as u32, v);
             count += 1;

@@ -44,7 +44,7 @@ loop-again c =
       length-set (l .bytes) (l .i) _ ∙ l .inv .0,
       omega arith,
       fill-next (l .bytes) (c .before .before .before .before .before .before .args .s .now) (c .before .before .before .before .span-of .result .from) (l .i)
-      (omega (arith, l .inv .0, l .inv .1, c .before .before .before .before .span-of .ensures .1)) (l .inv .2),
+          (omega (arith, l .inv .0, l .inv .1, c .before .before .before .before .span-of .ensures .1)) (l .inv .2),
     )
 
 returns : tie.Need-returns Inv-loop μ-loop

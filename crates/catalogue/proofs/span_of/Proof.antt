@@ -41,8 +41,8 @@ returns-3 c =
       omega arith,
       omega arith,
       rw (n .ensures .0)
-      (span-some (a .s .now) (a .d) (most .result) (count .result) (most .ensures .0) (most .ensures .2) (count .ensures .0)
-      (rw (← n .ensures .0) (λ k. count .ensures .2 k))),
+          (span-some (a .s .now) (a .d) (most .result) (count .result) (most .ensures .0) (most .ensures .2) (count .ensures .0)
+          (rw (← n .ensures .0) (λ k. count .ensures .2 k))),
     )
 
 pub span-of-spec : {M : Type 1} → statement M

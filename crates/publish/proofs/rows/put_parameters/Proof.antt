@@ -8,17 +8,23 @@ use Rattle.table.specs.Slots.{paramCount}
 use Rattle.table.specs.Lawful.{bitsAt}
 use Rattle.publish.specs.Published.{elementOf, parametersFrom}
 use Rattle.publish.proofs.Bits.{no-nan}
-use Rattle.publish.proofs.Pieces.{parameters-held, parameters-absent, parameters-end, put-value, held-is}
+use Rattle.publish.proofs.Pieces.{parameters-held, parameters-absent, parameters-end, put-value, bytes-of, held-is}
 use Rattle.publish.proofs.Loops.{Left, left-all, left-as, left-at, left-room, left-put, left-none}
 use Rattle.publish.proofs.rows.put_parameters.Statement.{statement}
 use Rattle.publish.proofs.rows.put_parameters.Tie as tie
 
 abbrev Inv-loop : tie.InvT-loop
-Inv-loop c buffer₀ at s device end₀ count₀ p₀ buffer end count p =
+Inv-loop c buffer₀ at s bytes end₀ count₀ p₀ buffer end count p =
     (p ≤ paramCount) × (count ≤ p) × Left buffer₀ at (parametersFrom paramCount c s 0) buffer end count (parametersFrom (paramCount - p) c s p)
 
 abbrev μ-loop : tie.MeasureT-loop
-μ-loop c buffer₀ at s device end₀ count₀ p₀ buffer end count p = paramCount - p
+μ-loop c buffer₀ at s bytes end₀ count₀ p₀ buffer end count p = paramCount - p
+
+find-device-requires : tie.Need-find-device-requires Inv-loop μ-loop
+find-device-requires c κs = search needs
+
+parameter-bytes-requires : tie.Need-parameter-bytes-requires Inv-loop μ-loop
+parameter-bytes-requires c κs = search needs
 
 loop-holds : tie.Need-loop-holds Inv-loop μ-loop
 loop-holds c = (omega arith, omega arith, left-all _ _ _)
@@ -26,8 +32,11 @@ loop-holds c = (omega arith, omega arith, left-all _ _ _)
 element-copy-out-if1 : tie.Need-element-copy-out-if1 Inv-loop μ-loop
 element-copy-out-if1 c = search needs
 
-find-parameter-requires : tie.Need-find-parameter-requires Inv-loop μ-loop
-find-parameter-requires c κs = search needs
+array-read-describe : tie.Need-array-read-describe Inv-loop μ-loop
+array-read-describe c = search needs
+
+describe-requires : tie.Need-describe-requires Inv-loop μ-loop
+describe-requires c κs = search needs
 
 mul-value-of : tie.Need-mul-value-of Inv-loop μ-loop
 mul-value-of c = search needs
@@ -43,13 +52,15 @@ cast-put-parameter c = search needs
 
 put-parameter-requires : tie.Need-put-parameter-requires Inv-loop μ-loop
 put-parameter-requires c κs =
-    let a = c .before .before .before .before .before .before .before .before .before .before .args in
+    let start = c .before .before .before .before .before .before .before .before .before .before .before .before in
+    let a = start .args in
     let l = c .before .before .before .before .before .before .before .loop in
-    let q = c .before .before .before .find-parameter in
+    let q = c .before .before .before .describe in
     let e = c .before .value-of .ensures in
-    let v = held-is (a .c .now) (a .t2) (l .p) (q .ensures) e in (
+    let b = bytes-of (a .c .now) (a .t2 .device) (c .before .before .before .before .before .before .before .before .before .find-device .ensures) (c .before .before .before .before .before .before .before .before .parameter-bytes .ensures) in
+    let v = held-is (a .c .now) (a .t2) (l .p) b (omega arith) (q .ensures) e in (
       rw e (no-nan (q .result .kind) (bitsAt (a .t2) (l .p))),
-      rw v (left-room (left-as (parameters-held (a .c .now) (a .t2) (l .p) (omega arith) (c .before .before .before .before .if1 .taken)) (l .inv .2)) (c .before .before .before .before .before .before .before .before .before .before .pre)),
+      rw v (left-room (left-as (parameters-held (a .c .now) (a .t2) (l .p) (omega arith) (c .before .before .before .before .if1 .taken)) (l .inv .2)) (start .pre)),
     )
 
 add-count : tie.Need-add-count Inv-loop μ-loop
@@ -63,9 +74,10 @@ loop-less c = search needs
 
 loop-again : tie.Need-loop-again Inv-loop μ-loop
 loop-again c =
-    let a = c .before .before .before .before .before .before .args in
+    let a = c .before .before .before .before .before .before .before .before .args in
     let l = c .before .before .before .loop in
     let low : l .p < paramCount = omega arith in
+    let b = bytes-of (a .c .now) (a .t2 .device) (c .before .before .before .before .before .find-device .ensures) (c .before .before .before .before .parameter-bytes .ensures) in
     let held = parameters-held (a .c .now) (a .t2) (l .p) low in
     let absent = parameters-absent (a .c .now) (a .t2) (l .p) low in
     ⊎-elim
@@ -73,7 +85,7 @@ loop-again c =
       omega arith,
       omega (arith, w .10, l .inv .1),
       left-at (w .8) (w .9) (w .10) (left-put (left-as (held (w .0 .taken)) (l .inv .2))
-          (put-value (l .p) _ _ (ap elementOf (held-is (a .c .now) (a .t2) (l .p) (w .1 .ensures) (w .3 .ensures))) (w .5 .ensures))),
+          (put-value (l .p) _ _ (ap elementOf (held-is (a .c .now) (a .t2) (l .p) b low (w .1 .ensures) (w .3 .ensures))) (w .5 .ensures))),
     ))
     (λ w. (omega arith, omega (arith, w .3, l .inv .1), left-at (w .1) (w .2) (w .3) (left-as (absent (w .0 .left)) (l .inv .2))))
     (c .if1 .came)
@@ -83,7 +95,7 @@ same-length c = search needs
 
 returns : tie.Need-returns Inv-loop μ-loop
 returns c =
-    let a = c .before .before .before .before .args in
+    let a = c .before .before .before .before .before .before .args in
     let l = c .before .loop in
     let r = left-none (left-as (parameters-end (a .c .now) (a .t2) (l .p) (omega arith)) (l .inv .2)) in
     (r .0, r .1, omega (arith, l .inv .0, l .inv .1))
@@ -94,9 +106,12 @@ put-parameters-spec =
     (tie.spec
     Inv-loop
     μ-loop
+    find-device-requires
+    parameter-bytes-requires
     loop-holds
     element-copy-out-if1
-    find-parameter-requires
+    array-read-describe
+    describe-requires
     mul-value-of
     element-copy-out-value-of
     value-of-requires
