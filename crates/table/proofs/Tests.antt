@@ -29,3 +29,15 @@ pub every-of : (n : ℕ) (test : ℕ → Bool) → ((i : ℕ) → i < n → test
 unfolding every
 every-of zero test h = refl
 every-of (suc n) test h = and-true (every n test) (test n) (every-of n test (λ i l. h i (omega arith))) (h n (omega arith))
+
+swap : (a b c d : Bool) → ((a && b) && (c && d)) ≡ ((a && c) && (b && d))
+swap true true c d = refl
+swap true false true d = refl
+swap true false false d = refl
+swap false b c d = refl
+
+-- two tests at each index are each of them at every one
+pub every-both : (n : ℕ) (p q : ℕ → Bool) → every n (λ i. p i && q i) ≡ (every n p && every n q)
+unfolding every
+every-both zero p q = refl
+every-both (suc n) p q = rw (every-both n p q) (swap (every n p) (every n q) (p n) (q n))

@@ -1,60 +1,35 @@
--- `table::is_lawful` meets its contract. Invariant: the first i slots are lawful.
-use Prim.Native.Nat.{_-_, _≤_}
-use mathlib.Core.Bool.{true}
-use mathlib.Core.Path.{_≡_, refl, sym, _∙_}
-use native.Mathlib.Omega.{arith}
+-- `table::is_lawful` meets its contract: the slots are lawful by themselves, and they differ.
+use Prim.Native.Nat.{ℕ}
+use mathlib.Core.Path.{_≡_}
+use mathlib.Core.Bool.{_&&_}
+use mathlib.Core.List.{List}
 use borrow.Author.Needs.{needs}
-use Rattle.wire.proofs.Chains.{every-all, every-more, every-stop}
 use Rattle.wire.specs.Every.{every}
-use Rattle.table.specs.Lawful.{lawful, lawfulAt}
-use Rattle.table.specs.Slots.{slotCount}
+use Rattle.table.specs.Lawful.{slotLawful, slotsDiffer, lawfulAt, lawful}
+use Rattle.table.specs.Slots.{slotCount, slotAt}
+use Rattle.table.specs.declared.Table.{Table}
+use Rattle.table.proofs.Tests.{every-both}
 use Rattle.table.proofs.lawful.is_lawful.Statement.{statement}
 use Rattle.table.proofs.lawful.is_lawful.Tie as tie
 
-abbrev Inv-loop : tie.InvT-loop
-Inv-loop c t i₀ i = (i ≤ slotCount) × (every i (lawfulAt c t) ≡ true)
+parts :
+    (c : List ℕ) (t : Table) →
+    lawful c t ≡
+    (every slotCount (λ i. slotLawful c (slotAt t i)) && every slotCount (λ i. every i (λ j. slotsDiffer (slotAt t j) (slotAt t i))))
+unfolding lawful lawfulAt
+parts c t = every-both slotCount (λ i. slotLawful c (slotAt t i)) (λ i. every i (λ j. slotsDiffer (slotAt t j) (slotAt t i)))
 
-abbrev μ-loop : tie.MeasureT-loop
-μ-loop c t i₀ i = slotCount - i
+are-lawful-slots-requires : tie.Need-are-lawful-slots-requires
+are-lawful-slots-requires c κs = search needs
 
-loop-holds : tie.Need-loop-holds Inv-loop μ-loop
-unfolding every
-loop-holds c = (omega arith, refl)
+do-all-differ-requires : tie.Need-do-all-differ-requires
+do-all-differ-requires c κs = search needs
 
-is-lawful-at-requires : tie.Need-is-lawful-at-requires Inv-loop μ-loop
-is-lawful-at-requires c κs = search needs
+returns : tie.Need-returns
+returns c = rw (parts, ← c .before .before .are-lawful-slots .ensures, c .before .if1 .taken) (c .do-all-differ .ensures)
 
-add-i : tie.Need-add-i Inv-loop μ-loop
-add-i c = search needs
-
-loop-less : tie.Need-loop-less Inv-loop μ-loop
-loop-less c = search needs
-
-loop-again : tie.Need-loop-again Inv-loop μ-loop
-loop-again c = (
-  omega arith,
-  every-more _ _ (c .before .before .before .loop .inv .1) (sym (c .before .is-lawful-at .ensures) ∙ c .if1 .taken),
-)
-
-returns : tie.Need-returns Inv-loop μ-loop
-unfolding lawful
-returns c =
-    every-stop slotCount (c .before .before .before .loop .i) _ (c .before .before .loop-test .taken) (sym (c .before .is-lawful-at .ensures) ∙ c .if1 .left)
-
-returns-2 : tie.Need-returns-2 Inv-loop μ-loop
-unfolding lawful
-returns-2 c = every-all slotCount _ _ (c .before .loop .inv .0) (c .loop-test .left) (c .before .loop .inv .1)
+returns-2 : tie.Need-returns-2
+returns-2 c = rw (parts, ← c .before .are-lawful-slots .ensures, c .if1 .left)
 
 pub is-lawful-spec : {M : Type 1} → statement M
-is-lawful-spec =
-    tie.close
-    (tie.spec
-    Inv-loop
-    μ-loop
-    loop-holds
-    is-lawful-at-requires
-    add-i
-    loop-less
-    loop-again
-    returns
-    returns-2)
+is-lawful-spec = tie.close (tie.spec are-lawful-slots-requires do-all-differ-requires returns returns-2)
