@@ -185,7 +185,7 @@ fn least(a: usize, b: usize) -> usize
     b
 }
 
-// The first 32 of them; what stands in no span is 0.
+// The span of at most 32 parameters. The byte of a parameter behind it is 0.
 fn span_of(s: &[u8], d: Device) -> Span
     ensures { λ r. ⌜ (r .from + r .count ≤ length (now (s .entry))) × (r .count ≤ maxParameters)
         × ((p : ℕ) → p < maxParameters → cond (ltb p (r .count)) (getD (now (s .entry)) (r .from + p) 0) 0 ≡ byteIn (now (s .entry)) d p) ⌝ }
