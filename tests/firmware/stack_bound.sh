@@ -22,7 +22,7 @@ function end_call() {
 function bound(name, list, count, at, most, below) {
     if ((name in frame) == 0) {
         outside[name] = 1
-        return 0
+        return 8
     }
     count = split(calls_of[name], list, " ")
     most = 0
@@ -81,6 +81,6 @@ END {
         if (name in frame)
             printf "%-28s %8d\n", name, bound(name) + (public[at] == "packet_decode" ? 0 : 16)
     }
-    for (name in outside) printf "and what %s takes\n", name
+    for (name in outside) printf "and what %s takes below its return address\n", name
     for (name in indirect) printf "%s calls what is not known here\n", name
 }'
