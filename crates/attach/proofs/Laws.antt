@@ -23,7 +23,7 @@ use Rattle.table.specs.declared.Answer.{Answer}
 use Rattle.table.specs.declared.Answer.the-variants.{Accepted, Refused}
 use Rattle.table.specs.declared.Update.{Update}
 use Rattle.table.proofs.Tests.{never, every-of}
-use Rattle.table.proofs.ByteLists.{drop-bytes}
+use Rattle.wire.proofs.ByteLists.{drop-bytes}
 use Rattle.table.proofs.Places.{holds-parts, holds-not, slot-found, slot-none, free-found, none-free}
 use Rattle.table.proofs.Meaning.{lawful-means}
 use Rattle.table.proofs.Keeps.{Apart, fresh-lawful, empty-slot-lawful, fresh-shaped}

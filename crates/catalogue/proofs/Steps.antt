@@ -1,7 +1,7 @@
 -- One step of each definition that a loop follows.
 use Prim.Native.Nat.{ℕ, zero, suc, _+_, _-_, _<_}
-use mathlib.Core.Path.{_≡_, refl, ap, _∙_}
-use mathlib.Core.Bool.{Bool, _&&_, cond}
+use mathlib.Core.Path.{_≡_, ap, _∙_}
+use mathlib.Core.Bool.{Bool, cond}
 use mathlib.Core.List.{List}
 use native.Mathlib.Omega.{arith}
 use native.Mathlib.Numerals.{add-one}
@@ -10,6 +10,7 @@ use lib.Dec.{eqb}
 use lib.ListN.{length, getD, take, drop, length-drop}
 use lib.Seq.{take-all, getD-drop}
 use Rattle.wire.specs.Every.{every}
+use Rattle.wire.proofs.Chains.{every-same}
 use Rattle.catalogue.specs.Format.{typeNumber, parameterCount, parametersBefore}
 use Rattle.catalogue.specs.Lookup.{deviceAt, deviceFrom}
 
@@ -23,17 +24,6 @@ pub device-step :
 unfolding deviceFrom
 device-step zero s number i h = absurd (omega arith)
 device-step (suc n) s number i h = let e : suc n - 1 ≡ n = omega arith in rw e
-
--- a flag that speaks of the first i indices, with the test of the next
-pub every-grow : (i : ℕ) (test : ℕ → Bool) {flag next : Bool} → flag ≡ every i test → next ≡ test i → (flag && next) ≡ every (i + 1) test
-unfolding every
-every-grow i test h k = rw (add-one i, h, k)
-
--- tests that agree at every index
-pub every-same : (n : ℕ) (p q : ℕ → Bool) → ((k : ℕ) → k < n → p k ≡ q k) → every n p ≡ every n q
-unfolding every
-every-same zero p q h = refl
-every-same (suc n) p q h = rw (every-same n p q (λ k l. h k (omega arith)), h n (omega arith))
 
 -- a test of each byte behind an offset is a test of each byte of the part that starts there
 pub every-behind :

@@ -21,7 +21,7 @@ use Rattle.catalogue.proofs.Bytes.{zeros}
 use Rattle.table.specs.Slots.{slotCount, paramCount, Shaped, freshSlot, emptySlot, emptyTable, noSlot, slotAt, slotOf}
 use Rattle.table.specs.Lawful.{lawful}
 use Rattle.table.specs.declared.Table.{Table}
-use Rattle.table.proofs.ByteLists.{drop-bytes, take-bytes, append-bytes, zero-bytes, byte-small}
+use Rattle.wire.proofs.ByteLists.{drop-bytes, take-bytes, append-bytes, zero-bytes, byte-small}
 use Rattle.table.proofs.Places.{slot-found}
 use Rattle.table.proofs.Keeps.{empty-table-lawful, empty-table-shaped}
 use Rattle.table.proofs.Outcome.{outcome-either}

@@ -14,7 +14,7 @@ use Rattle.catalogue.specs.Lookup.{parameterOf}
 use Rattle.table.specs.Slots.{paramCount, ShapedSlot}
 use Rattle.table.specs.Lawful.{bitsAt}
 use Rattle.table.specs.declared.Slot.{Slot}
-use Rattle.table.proofs.ByteLists.{drop-bytes}
+use Rattle.wire.proofs.ByteLists.{drop-bytes}
 use Rattle.parameters.specs.Data.{mapOf, named, width, offsetOf, valueIn, stored}
 use Rattle.parameters.proofs.Values.{data-bits, data-shaped-slot}
 

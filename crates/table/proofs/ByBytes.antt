@@ -5,10 +5,10 @@ use mathlib.Core.Bool.{Bool}
 use mathlib.Core.List.{List}
 use lib.ListN.{getD}
 use Rattle.wire.specs.Every.{every}
+use Rattle.wire.proofs.Chains.{every-same}
 use Rattle.catalogue.specs.Format.{maxParameters, described}
 use Rattle.catalogue.specs.Lookup.{deviceOf, parameterIn, BytesIn}
 use Rattle.catalogue.specs.declared.Device.{Device}
-use Rattle.catalogue.proofs.Steps.{every-same}
 use Rattle.catalogue.proofs.Bytes.{kind-is, readable-is}
 use Rattle.table.specs.Slots.{paramCount}
 use Rattle.table.specs.Lawful.{presentAt, bitsAt, valueLawful, heldLawful}

@@ -1,6 +1,5 @@
 pub mod Steps
 pub mod Tests
-pub mod ByteLists
 pub mod Places
 pub mod Meaning
 pub mod Keeps

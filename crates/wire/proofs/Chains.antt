@@ -23,6 +23,17 @@ and-right false b h = absurd (let z : _≡_ {A = ℕ} 0 1 = cc in omega arith)
 pub and-true : (a b : Bool) → a ≡ true → b ≡ true → (a && b) ≡ true
 and-true a b h k = rw (h, k)
 
+-- a flag that speaks of the first i indices, with the test of the next
+pub every-grow : (i : ℕ) (test : ℕ → Bool) {flag next : Bool} → flag ≡ every i test → next ≡ test i → (flag && next) ≡ every (i + 1) test
+unfolding every
+every-grow i test h k = rw (add-one i, h, k)
+
+-- tests that agree at every index
+pub every-same : (n : ℕ) (p q : ℕ → Bool) → ((k : ℕ) → k < n → p k ≡ q k) → every n p ≡ every n q
+unfolding every
+every-same zero p q h = refl
+every-same (suc n) p q h = rw (every-same n p q (λ k l. h k (omega arith)), h n (omega arith))
+
 -- a loop that passed i goes on
 pub every-more : (i : ℕ) (test : ℕ → Bool) → every i test ≡ true → test i ≡ true → every (i + 1) test ≡ true
 unfolding every

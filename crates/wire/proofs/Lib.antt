@@ -2,3 +2,4 @@ pub mod Numbers
 pub mod Chains
 pub mod Buffers
 pub mod Zeros
+pub mod ByteLists

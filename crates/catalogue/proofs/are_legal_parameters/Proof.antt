@@ -5,8 +5,8 @@ use native.Mathlib.Omega.{arith}
 use lib.ListN.{length, getD}
 use borrow.Author.Needs.{needs}
 use Rattle.wire.specs.Every.{every}
+use Rattle.wire.proofs.Chains.{every-grow}
 use Rattle.catalogue.specs.Format.{parameterLegal}
-use Rattle.catalogue.proofs.Steps.{every-grow}
 use Rattle.catalogue.proofs.are_legal_parameters.Statement.{statement}
 use Rattle.catalogue.proofs.are_legal_parameters.Tie as tie
 

@@ -5,8 +5,8 @@ use native.Mathlib.Omega.{arith}
 use lib.ListN.{getD}
 use borrow.Author.Needs.{needs}
 use Rattle.wire.specs.Every.{every}
+use Rattle.wire.proofs.Chains.{every-grow}
 use Rattle.catalogue.specs.Format.{described}
-use Rattle.catalogue.proofs.Steps.{every-grow}
 use Rattle.table.specs.Lawful.{presentAt, bitsAt, valueLawful}
 use Rattle.table.specs.Slots.{paramCount}
 use Rattle.table.proofs.lawful.are_lawful_values.Statement.{statement}

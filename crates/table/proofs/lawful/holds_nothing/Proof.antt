@@ -4,7 +4,7 @@ use mathlib.Core.Path.{_≡_, refl}
 use native.Mathlib.Omega.{arith}
 use borrow.Author.Needs.{needs}
 use Rattle.wire.specs.Every.{every}
-use Rattle.catalogue.proofs.Steps.{every-grow}
+use Rattle.wire.proofs.Chains.{every-grow}
 use Rattle.table.specs.Lawful.{nothingHeld}
 use Rattle.table.specs.Slots.{paramCount}
 use Rattle.table.proofs.lawful.holds_nothing.Statement.{statement}
