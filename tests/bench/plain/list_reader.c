@@ -2,47 +2,7 @@
  * Reads a list in two passes, element by element: the first judges all of it, the second
  * fills the rows and the store.
  */
-#include "plain.h"
-
-#include <stdbool.h>
-#include <string.h>
-
-#if __BYTE_ORDER__ != __ORDER_LITTLE_ENDIAN__
-#error "numbers are copied as they are, low byte first"
-#endif
-
-enum { LIST_LIMIT = 4096, DEPTH_LIMIT = 8, WORD = 4, ROW = 12 };
-
-enum { INT = 1, STRING = 4, VOCAB = 9, FLOAT = 10, BLOB = 12, LIST = 256 };
-
-enum {
-    AREA_TOO_SMALL = 20,
-    BYTES_END = 21,
-    NOT_A_LIST = 22,
-    COUNT_BELOW_0 = 23,
-    WRONG_LIST_CODE = 24,
-    BAD_STRING_OR_BLOB = 25,
-    UNKNOWN_CODE = 26,
-    TOO_DEEP = 27,
-    BEYOND_LIMIT = 28
-};
-
-static uint32_t word_at(const uint8_t *at)
-{
-    uint32_t word;
-    memcpy(&word, at, WORD);
-    return word;
-}
-
-static bool is_kind(uint32_t code)
-{
-    return code == INT || code == STRING || code == VOCAB || code == FLOAT || code == BLOB;
-}
-
-static bool is_list_code(uint32_t code)
-{
-    return code == LIST || (code > LIST && is_kind(code - LIST));
-}
+#include "list.h"
 
 /* The bytes, how far they were judged, and the first fault once one is found. */
 struct judge {
@@ -82,7 +42,7 @@ static bool judge_bytes(struct judge *judge, uint32_t kind)
 {
     if (!have(judge, WORD))
         return false;
-    int32_t length = (int32_t)word_at(judge->bytes + judge->at);
+    int32_t length = signed_at(judge->bytes + judge->at);
     if (length < (kind == STRING ? 1 : 0))
         return refuse(judge, BAD_STRING_OR_BLOB, judge->at);
     judge->at += WORD;
@@ -137,7 +97,7 @@ static bool judge_list(struct judge *judge, unsigned depth)
     judge->at += WORD;
     if (!have(judge, WORD))
         return false;
-    int32_t count = (int32_t)word_at(judge->bytes + judge->at);
+    int32_t count = signed_at(judge->bytes + judge->at);
     if (count < 0)
         return refuse(judge, COUNT_BELOW_0, judge->at);
     judge->at += WORD;
@@ -208,12 +168,6 @@ static void fill_list(struct filler *filler)
     }
 }
 
-static cinder_list_result refused(uint64_t error, uint64_t offset)
-{
-    return (cinder_list_result){.error = error, .offset = offset};
-}
-
-/* `bytes` from `offset` on; offsets of errors count from the front of `bytes`. */
 static cinder_list_result decode_at(const uint8_t *bytes, size_t bytes_len, size_t offset,
                                     uint8_t *rows, uint8_t *store)
 {
@@ -236,20 +190,12 @@ cinder_list_result plain_list_decode(const uint8_t *bytes, size_t bytes_len,
                                      uint8_t *rows, size_t rows_len,
                                      uint8_t *store, size_t store_len)
 {
-    if (rows_len < CINDER_ROWS_ROOM || store_len < CINDER_STORE_ROOM)
-        return refused(AREA_TOO_SMALL, 0);
-    return decode_at(bytes, bytes_len, 0, rows, store);
+    return list_decode_by(decode_at, bytes, bytes_len, rows, rows_len, store, store_len);
 }
 
 cinder_list_result plain_stream_next(const uint8_t *bytes, size_t bytes_len, uint64_t offset,
                                      uint8_t *rows, size_t rows_len,
                                      uint8_t *store, size_t store_len)
 {
-    if (rows_len < CINDER_ROWS_ROOM || store_len < CINDER_STORE_ROOM)
-        return refused(AREA_TOO_SMALL, 0);
-    if (offset > bytes_len)
-        return refused(BYTES_END, offset);
-    if (offset == bytes_len)
-        return (cinder_list_result){0};
-    return decode_at(bytes, bytes_len, (size_t)offset, rows, store);
+    return stream_next_by(decode_at, bytes, bytes_len, offset, rows, rows_len, store, store_len);
 }

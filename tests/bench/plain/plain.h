@@ -18,4 +18,13 @@ cinder_list_result plain_stream_next(const uint8_t *bytes, size_t bytes_len, uin
                                      uint8_t *rows, size_t rows_len,
                                      uint8_t *store, size_t store_len);
 
+/* The same calls once more, tuned by hand. */
+cinder_list_result tuned_list_decode(const uint8_t *bytes, size_t bytes_len,
+                                     uint8_t *rows, size_t rows_len,
+                                     uint8_t *store, size_t store_len);
+
+cinder_list_result tuned_stream_next(const uint8_t *bytes, size_t bytes_len, uint64_t offset,
+                                     uint8_t *rows, size_t rows_len,
+                                     uint8_t *store, size_t store_len);
+
 #endif
