@@ -15,20 +15,25 @@ use second_reader::packet;
 use second_reader::stream::{self, Step};
 use std::hint::black_box;
 
+/// The second reader, the C readers, and the product.
 #[derive(Clone, Copy, PartialEq, Debug)]
 pub enum Side {
     Reader,
     Plain,
+    Tuned,
     Archive,
 }
 
 impl Side {
-    pub const ALL: [Side; 3] = [Side::Reader, Side::Plain, Side::Archive];
+    pub const ALL: [Side; 4] = [Side::Reader, Side::Plain, Side::Tuned, Side::Archive];
+    /// Those that the archive is compared with.
+    pub const OTHERS: [Side; 3] = [Side::Reader, Side::Plain, Side::Tuned];
 
     pub fn name(self) -> &'static str {
         match self {
             Side::Reader => "reader",
-            Side::Plain => "C",
+            Side::Plain => "plain",
+            Side::Tuned => "tuned",
             Side::Archive => "archive",
         }
     }
@@ -63,6 +68,18 @@ enum Call {
 type Outcome = ([u64; 4], Vec<u8>, Vec<u8>);
 
 impl Case {
+    /// The sides that have this case's call.
+    pub fn sides(&self) -> &'static [Side] {
+        match self.call {
+            #[cfg(feature = "packet")]
+            Call::Packet => &[Side::Reader, Side::Plain, Side::Archive],
+            #[cfg(feature = "list")]
+            Call::List => &Side::ALL,
+            #[cfg(feature = "stream")]
+            Call::Stream => &Side::ALL,
+        }
+    }
+
     /// Does one side's work this many times.
     pub fn call(&mut self, side: Side, times: u64) {
         let Case { bytes, first, store, call, .. } = self;
@@ -76,6 +93,8 @@ impl Case {
                 repeat(times, || plain::packet_decode(black_box(bytes), first))
             }
             #[cfg(feature = "packet")]
+            (Call::Packet, Side::Tuned) => no_tuned_packet(),
+            #[cfg(feature = "packet")]
             (Call::Packet, Side::Archive) => {
                 repeat(times, || archive::packet_decode(black_box(bytes), first))
             }
@@ -86,6 +105,10 @@ impl Case {
             #[cfg(feature = "list")]
             (Call::List, Side::Plain) => {
                 repeat(times, || plain::list_decode(black_box(bytes), first, store))
+            }
+            #[cfg(feature = "list")]
+            (Call::List, Side::Tuned) => {
+                repeat(times, || plain::tuned_list_decode(black_box(bytes), first, store))
             }
             #[cfg(feature = "list")]
             (Call::List, Side::Archive) => {
@@ -99,16 +122,16 @@ impl Case {
                 })
             }),
             #[cfg(feature = "stream")]
-            (Call::Stream, Side::Plain) => repeat(times, || {
-                steps(|offset| {
-                    black_box(plain::stream_next(black_box(bytes), offset, first, store)).consumed
-                })
+            (Call::Stream, Side::Plain) => repeat_steps(times, |offset| {
+                plain::stream_next(black_box(bytes), offset, first, store)
             }),
             #[cfg(feature = "stream")]
-            (Call::Stream, Side::Archive) => repeat(times, || {
-                steps(|offset| {
-                    black_box(archive::stream_next(black_box(bytes), offset, first, store)).consumed
-                })
+            (Call::Stream, Side::Tuned) => repeat_steps(times, |offset| {
+                plain::tuned_stream_next(black_box(bytes), offset, first, store)
+            }),
+            #[cfg(feature = "stream")]
+            (Call::Stream, Side::Archive) => repeat_steps(times, |offset| {
+                archive::stream_next(black_box(bytes), offset, first, store)
             }),
         }
         black_box((first, store));
@@ -117,8 +140,8 @@ impl Case {
     /// Whether all sides do the same work: the same answer to each call, and the same
     /// bytes in the buffers after it.
     pub fn sides_agree(&mut self) -> bool {
-        let [reader, plain, archive] = Side::ALL.map(|side| self.outcomes(side));
-        reader == plain && reader == archive
+        let reader = self.outcomes(Side::Reader);
+        self.sides().iter().all(|&side| self.outcomes(side) == reader)
     }
 
     /// What each call of one side answers and leaves, the buffers being as new before.
@@ -146,6 +169,12 @@ fn repeat<Answer>(times: u64, mut call: impl FnMut() -> Answer) {
     for _ in 0..times {
         black_box(call());
     }
+}
+
+/// Goes through the stream this many times.
+#[cfg(feature = "stream")]
+fn repeat_steps(times: u64, mut next: impl FnMut(u64) -> archive::ListResult) {
+    repeat(times, || steps(|offset| black_box(next(offset)).consumed))
 }
 
 /// Goes from offset to offset by what each step says that it consumed.
@@ -179,11 +208,15 @@ fn answer(
         #[cfg(feature = "packet")]
         (Call::Packet, Side::Plain) => of_packet(plain::packet_decode(bytes, first)),
         #[cfg(feature = "packet")]
+        (Call::Packet, Side::Tuned) => no_tuned_packet(),
+        #[cfg(feature = "packet")]
         (Call::Packet, Side::Archive) => of_packet(archive::packet_decode(bytes, first)),
         #[cfg(feature = "list")]
         (Call::List, Side::Reader) => list::numbers(list::decode(bytes, first, store)),
         #[cfg(feature = "list")]
         (Call::List, Side::Plain) => of_list(plain::list_decode(bytes, first, store)),
+        #[cfg(feature = "list")]
+        (Call::List, Side::Tuned) => of_list(plain::tuned_list_decode(bytes, first, store)),
         #[cfg(feature = "list")]
         (Call::List, Side::Archive) => of_list(archive::list_decode(bytes, first, store)),
         #[cfg(feature = "stream")]
@@ -191,8 +224,17 @@ fn answer(
         #[cfg(feature = "stream")]
         (Call::Stream, Side::Plain) => of_list(plain::stream_next(bytes, offset, first, store)),
         #[cfg(feature = "stream")]
+        (Call::Stream, Side::Tuned) => {
+            of_list(plain::tuned_stream_next(bytes, offset, first, store))
+        }
+        #[cfg(feature = "stream")]
         (Call::Stream, Side::Archive) => of_list(archive::stream_next(bytes, offset, first, store)),
     }
+}
+
+#[cfg(feature = "packet")]
+fn no_tuned_packet() -> ! {
+    unreachable!("a packet has no tuned side")
 }
 
 #[cfg(feature = "packet")]

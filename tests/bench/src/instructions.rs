@@ -1,6 +1,6 @@
 //! Instructions as callgrind counts them.
 
-use crate::cases::Side;
+use crate::cases::Case;
 use crate::hub;
 use crate::programs::{self, Input};
 use second_reader::generate::{list, replay};
@@ -14,13 +14,9 @@ use std::process::{Command, ExitCode, Stdio};
 
 const TIMES: u64 = 50;
 
-/// Instructions for one call of each side.
-pub fn of_case(name: &str) -> Result<[f64; 3], String> {
-    let mut counts = [0.0; 3];
-    for (count, side) in counts.iter_mut().zip(Side::ALL) {
-        *count = of_side(name, side.name())?;
-    }
-    Ok(counts)
+/// Instructions for one call of each side of the case.
+pub fn of_case(case: &Case) -> Result<Vec<f64>, String> {
+    case.sides().iter().map(|side| of_side(case.name, side.name())).collect()
 }
 
 fn of_side(name: &str, side: &str) -> Result<f64, String> {

@@ -1,12 +1,12 @@
-//! Measures the archive's readers against the second reader and against plain C on the
-//! same inputs in one run: time for each call, and instructions for each call as
-//! callgrind counts them. For a stream, a call is the reading of all of it. Buffers are
-//! not cleared between calls.
+//! Measures the archive's readers against the second reader and against C readers, plain
+//! and tuned by hand, on the same inputs in one run: time for each call, then instructions
+//! for each call as callgrind counts them. For a stream, a call is the reading of all of
+//! it. Buffers are not cleared between calls.
 //!
 //!   bench                            all cases
 //!   bench --no-instructions          time only
-//!   bench --one CASE SIDE TIMES      just those calls, for callgrind; SIDE is reader, C
-//!                                    or archive
+//!   bench --one CASE SIDE TIMES      just those calls, for callgrind; SIDE is reader,
+//!                                    plain, tuned or archive
 //!   bench --hub                      the hub's calls only
 //!   bench --as run|replay|hub        the second reader as that program; hub is bench_hub
 
@@ -51,26 +51,19 @@ fn main() -> ExitCode {
 }
 
 fn table(with_instructions: bool) -> ExitCode {
-    print!("{:<24} {:>5}", "case", "bytes");
+    let mut cases = cases::all();
     headings("ns");
-    if with_instructions {
-        headings("ins");
-    }
-    println!();
-    for mut case in cases::all() {
-        print!("{:<24} {:>5}", case.name, case.bytes.len());
+    for case in &mut cases {
         if !case.sides_agree() {
-            println!("  the sides differ: nothing to measure");
+            println!("{:<24} the sides differ: nothing to measure", case.name);
             return ExitCode::FAILURE;
         }
-        figures(time(&mut case));
-        if with_instructions {
-            match instructions::of_case(case.name) {
-                Ok(counts) => figures(counts),
-                Err(message) => print!("  {message}"),
-            }
-        }
-        println!();
+        let numbers = time(case);
+        line(case, Ok(numbers));
+    }
+    if with_instructions {
+        headings("ins");
+        cases.iter().for_each(|case| line(case, instructions::of_case(case)));
     }
     let hub_measured = hub::table(with_instructions);
     if with_instructions {
@@ -83,24 +76,42 @@ fn table(with_instructions: bool) -> ExitCode {
     }
 }
 
+/// The sides, and the archive's ratio to each of the others.
 fn headings(unit: &str) {
-    print!(" ");
+    print!("{:<24} {:>5}", "case", "bytes");
     Side::ALL.iter().for_each(|side| print!(" {:>11}", format!("{} {unit}", side.name())));
-    print!(" {:>8} {:>6}", "/reader", "/C");
+    Side::OTHERS.iter().for_each(|side| print!(" {:>14}", format!("archive/{}", side.name())));
+    println!();
 }
 
-/// The three sides, and the archive's ratios to the other two.
-fn figures([reader, plain, archive]: [f64; 3]) {
-    print!("  {reader:>11.1} {plain:>11.1} {archive:>11.1}");
-    print!(" {:>8.2} {:>6.2}", archive / reader, archive / plain);
+/// The numbers are those of the case's sides, in their order.
+fn line(case: &Case, numbers: Result<Vec<f64>, String>) {
+    print!("{:<24} {:>5}", case.name, case.bytes.len());
+    match numbers {
+        Ok(numbers) => {
+            let at = |wanted| case.sides().iter().position(|&side| side == wanted);
+            let of = |side| at(side).map(|at| numbers[at]);
+            let ratio = |side| Some(of(Side::Archive)? / of(side)?);
+            Side::ALL.iter().for_each(|&side| print!(" {:>11}", cell(of(side), 1)));
+            Side::OTHERS.iter().for_each(|&side| print!(" {:>14}", cell(ratio(side), 2)));
+            println!();
+        }
+        Err(message) => println!(" {message}"),
+    }
 }
 
-/// Nanoseconds for one call of each side.
-fn time(case: &mut Case) -> [f64; 3] {
-    let calls = Side::ALL.map(|side| calls_for_a_sample(case, side));
-    let mut fastest = [f64::MAX; 3];
+/// A dash where the case has not the side.
+fn cell(number: Option<f64>, decimals: usize) -> String {
+    number.map_or(String::from("-"), |number| format!("{number:.decimals$}"))
+}
+
+/// Nanoseconds for one call of each side of the case.
+fn time(case: &mut Case) -> Vec<f64> {
+    let sides = case.sides();
+    let calls: Vec<_> = sides.iter().map(|&side| calls_for_a_sample(case, side)).collect();
+    let mut fastest = vec![f64::MAX; sides.len()];
     for _ in 0..SAMPLES {
-        for (at, side) in Side::ALL.into_iter().enumerate() {
+        for (at, &side) in sides.iter().enumerate() {
             fastest[at] = fastest[at].min(sample(case, side, calls[at]));
         }
     }
@@ -131,7 +142,7 @@ fn one(name: &str, side: &str, times: &str) -> ExitCode {
     let case = cases::all().into_iter().find(|case| case.name == name);
     let side = Side::named(side);
     match (case, side, times.parse()) {
-        (Some(mut case), Some(side), Ok(times)) => {
+        (Some(mut case), Some(side), Ok(times)) if case.sides().contains(&side) => {
             // The first call also finds functions of shared libraries.
             case.call(side, 1);
             bench_measured(&mut case, side, times);
