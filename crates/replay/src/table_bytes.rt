@@ -19,7 +19,8 @@ fn put_presence(out: &mut [u8], used: usize, s: Slot) -> usize {
     let mut at = used;
     let mut p: usize = 0;
     while p < hub::PARAMS {
-        at = text::put_byte(&mut *out, at, flag_byte(s.present[p]));
+        let b = [flag_byte(s.present[p])];
+        at = text::put_bytes(&mut *out, at, &b);
         p += 1;
     }
     at

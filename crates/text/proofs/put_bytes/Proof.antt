@@ -1,19 +1,23 @@
--- `put_bytes` is safe and ends. The invariant: the index lies within the bytes, and the output keeps its length.
-use Prim.Native.Nat.{_-_, _≤_}
-use mathlib.Core.Path.{_≡_}
-use lib.ListN.{length}
+-- `text::put_bytes` meets its contract. The invariant: with the bytes from the index on the text becomes what all bytes make of it.
+use Prim.Native.Nat.{_+_, _-_, _≤_}
+use mathlib.Core.Path.{_≡_, sym, ap, refl, _∙_}
+use native.Mathlib.Omega.{arith}
+use lib.ListN.{length, drop, drop-of-length-le}
 use borrow.Author.Needs.{needs}
+use Rattle.text.specs.Text.{text, puts, putBytes}
+use Rattle.text.proofs.Putting.{put-next}
 use Rattle.text.proofs.put_bytes.Statement.{statement}
 use Rattle.text.proofs.put_bytes.Tie as tie
 
 abbrev Inv-loop : tie.InvT-loop
-Inv-loop out₀ used bytes at₀ i₀ out at i = (i ≤ length bytes) × (length out ≡ length out₀)
+Inv-loop out₀ used bytes at₀ i₀ out at i =
+    (i ≤ length bytes) × (length out ≡ length out₀) × (putBytes (text out at) (drop i bytes) ≡ putBytes (text out₀ used) bytes)
 
 abbrev μ-loop : tie.MeasureT-loop
 μ-loop out₀ used bytes at₀ i₀ out at i = length bytes - i
 
 loop-holds : tie.Need-loop-holds Inv-loop μ-loop
-loop-holds c = search needs
+loop-holds c = (omega arith, refl, refl)
 
 shared-slice-read-put-byte : tie.Need-shared-slice-read-put-byte Inv-loop μ-loop
 shared-slice-read-put-byte c = search needs
@@ -28,13 +32,22 @@ loop-less : tie.Need-loop-less Inv-loop μ-loop
 loop-less c = search needs
 
 loop-again : tie.Need-loop-again Inv-loop μ-loop
-loop-again c = search needs
+loop-again c =
+    let bytes = c .before .before .before .before .before .before .before .before .before .args .bytes .now in
+    let l = c .before .before .before .before .before .before .loop in (
+      search needs,
+      search needs,
+      ap (λ t. putBytes t (drop (l .i + 1) bytes)) (c .before .before .put-byte .ensures) ∙ sym (put-next (text (l .out) (l .at)) bytes (l .i) (search needs)) ∙ l .inv .2,
+    )
 
 same-length : tie.Need-same-length Inv-loop μ-loop
 same-length c = search needs
 
 returns : tie.Need-returns Inv-loop μ-loop
-returns c = search needs
+unfolding puts
+returns c =
+    let l = c .before .loop in
+    rw (drop-of-length-le (c .before .before .before .before .args .bytes .now) (c .loop-test .left)) at (l .inv .2)
 
 pub put-bytes-spec : {M : Type 1} → statement M
 put-bytes-spec =

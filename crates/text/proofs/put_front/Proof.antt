@@ -1,8 +1,10 @@
--- `put_front` is safe: the bytes are part of the list.
+-- `text::put_front` meets its contract: the bytes are part of the list, or nothing is put.
 use mathlib.Core.Path.{sym}
 use native.Mathlib.Omega.{arith}
+use lib.ListN.{length}
 use lib.Seq.{length-take-le}
 use borrow.Author.Needs.{needs}
+use borrow.Author.Tests.{le-leb, lt-leb}
 use Rattle.text.proofs.put_front.Statement.{statement}
 use Rattle.text.proofs.put_front.Tie as tie
 
@@ -16,10 +18,14 @@ same-length : tie.Need-same-length
 same-length c = search needs
 
 returns : tie.Need-returns
-returns c = search needs
+returns c =
+    let a = c .before .before .before .before .before .before .before .before .args in
+    rw (le-leb (a .n) (length (a .list .now)) (omega arith)) (c .before .before .put-bytes .ensures)
 
 returns-2 : tie.Need-returns-2
-returns-2 c = search needs
+returns-2 c =
+    let a = c .before .before .before .args in
+    rw (lt-leb (a .n) (length (a .list .now)) (omega arith))
 
 pub put-front-spec : {M : Type 1} → statement M
 put-front-spec =

@@ -21,8 +21,11 @@ element-copy-out-flag-byte c = search needs
 flag-byte-requires : tie.Need-flag-byte-requires Inv-loop μ-loop
 flag-byte-requires c κs = search needs
 
-put-byte-requires : tie.Need-put-byte-requires Inv-loop μ-loop
-put-byte-requires c κs = search needs
+slice-aggregate-put-bytes : tie.Need-slice-aggregate-put-bytes Inv-loop μ-loop
+slice-aggregate-put-bytes c = search needs
+
+put-bytes-requires : tie.Need-put-bytes-requires Inv-loop μ-loop
+put-bytes-requires c κs = search needs
 
 add-p : tie.Need-add-p Inv-loop μ-loop
 add-p c = search needs
@@ -48,7 +51,8 @@ put-presence-spec =
     loop-holds
     element-copy-out-flag-byte
     flag-byte-requires
-    put-byte-requires
+    slice-aggregate-put-bytes
+    put-bytes-requires
     add-p
     loop-less
     loop-again

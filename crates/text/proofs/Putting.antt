@@ -1,0 +1,52 @@
+-- Laws of pieces that are put into a buffer.
+use Prim.Native.Nat.{ℕ, _+_, _-_, _/_, _%_, _≤_, _<_}
+use mathlib.Core.Bool.{Bool, true, false}
+use mathlib.Core.Path.{_≡_, refl, sym}
+use mathlib.Core.List.{List}
+use native.Mathlib.Numerals.{add-one}
+use native.Mathlib.Omega.{arith}
+use lib.Dec.{leb}
+use lib.ListN.{length, drop, getD, set}
+use lib.Seq.{drop-cons}
+use borrow.Author.Tests.{le-leb, lt-leb, leb-true, leb-false}
+use Rattle.io.specs.Digits.{glyph}
+use Rattle.wire.specs.Area.{putAt}
+use Rattle.text.specs.Digits.{hexByte}
+use Rattle.text.specs.Text.{Text, text, put, puts, putBytes}
+
+-- a piece that fits
+pub put-in : (buffer : List ℕ) (used : ℕ) (piece : List ℕ) → used + length piece ≤ length buffer
+    → text (putAt buffer used piece) (used + length piece) ≡ put (text buffer used) piece
+unfolding put
+put-in buffer used piece h = rw (le-leb (used + length piece) (length buffer) h)
+
+-- a piece that does not fit
+pub put-out : (buffer : List ℕ) (used : ℕ) (piece : List ℕ) → length buffer < used + length piece → text buffer used ≡ put (text buffer used) piece
+unfolding put
+put-out buffer used piece h = rw (lt-leb (used + length piece) (length buffer) h)
+
+-- the two digits of a byte, stored one by one
+pub put-two : (buffer : List ℕ) (used b x y : ℕ) → b < 256 → used + 2 ≤ length buffer → x ≡ glyph (b / 16) → y ≡ glyph (b % 16)
+    → text (set (set buffer used x) (used + 1) y) (used + 2) ≡ put (text buffer used) (hexByte b)
+unfolding put hexByte
+put-two buffer used b x y small h p q =
+    let high : b / 16 % 16 ≡ b / 16 = omega arith in
+    rw (le-leb (used + 2) (length buffer) h, high, p, q, add-one used)
+
+pub put-no-byte : (buffer : List ℕ) (used b : ℕ) → length buffer < used + 2 → text buffer used ≡ put (text buffer used) (hexByte b)
+unfolding put hexByte
+put-no-byte buffer used b h = rw (lt-leb (used + 2) (length buffer) h)
+
+-- bytes from an index on: the first of them, then the others
+pub put-next : (t : Text) (bytes : List ℕ) (i : ℕ) → i < length bytes
+    → putBytes t (drop i bytes) ≡ putBytes (put t (hexByte (getD bytes i 0))) (drop (i + 1) bytes)
+unfolding puts
+put-next t bytes i h = rw (drop-cons bytes i 0 h, add-one i)
+
+-- a test of room, as the code makes it without a sum that could pass 64 bits
+pub room-left : (a b n : ℕ) → n ≤ b → leb a (b - n) ≡ leb (a + n) b
+room-left a b n h = go (leb a (b - n)) refl
+  where
+    go : (e : Bool) → leb a (b - n) ≡ e → e ≡ leb (a + n) b
+    go true e = sym (le-leb (a + n) b (omega (arith, leb-true a (b - n) e)))
+    go false e = sym (lt-leb (a + n) b (omega (arith, leb-false a (b - n) e)))
