@@ -1,4 +1,3 @@
 pub mod Adding
-pub mod Digits
 pub mod Answers
 pub mod Lines

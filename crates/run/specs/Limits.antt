@@ -5,10 +5,6 @@ use Prim.Native.Nat.{ℕ}
 abbrev pub inputLimit : ℕ
 inputLimit = 32768
 
--- a number of 64 bits has at most 20 digits
-abbrev pub digitRoom : ℕ
-digitRoom = 20
-
 -- the longest line has three labels, 18 bytes together, three numbers and a newline
 abbrev pub lineRoom : ℕ
 lineRoom = 79

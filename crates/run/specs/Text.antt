@@ -1,5 +1,5 @@
 -- What the program prints: 01's lines, each ended by a newline.
-use Prim.Native.Nat.{ℕ, zero, suc, _+_, _/_, _%_}
+use Prim.Native.Nat.{ℕ, zero, suc, _+_}
 use mathlib.Core.Bool.{cond}
 use mathlib.Core.List.{List, [], _∷_, _++_}
 use lib.Dec.{eqb, ltb}
@@ -12,15 +12,8 @@ use Rattle.list.specs.Parse.{Parsed, good, bad, parse}
 use Rattle.stream.specs.declared.Step.{Step}
 use Rattle.stream.specs.declared.Step.the-variants as step
 use Rattle.stream.specs.Run.{runBytes, behind}
-use Rattle.run.specs.Limits.{inputLimit, digitRoom}
-
--- a number in decimal, with at most `most` digits
-unfoldable pub decimalOf : ℕ → ℕ → List ℕ
-decimalOf zero n = []
-decimalOf (suc most) n = cond (ltb n 10) ((48 + n) ∷ []) (decimalOf most (n / 10) ++ ((48 + n % 10) ∷ []))
-
-abbrev pub decimal : ℕ → List ℕ
-decimal n = decimalOf digitRoom n
+use Rattle.text.specs.Digits.{decimal}
+use Rattle.run.specs.Limits.{inputLimit}
 
 -- `list 1 bytes 40 rows 9`
 unfoldable pub listLine : ℕ → ℕ → ℕ → List ℕ

@@ -1,12 +1,11 @@
 // Reads a stream of lists from standard input and prints a line for each list, and one for what stands behind them.
 ghost use Prim.Native.Nat.{_+_, _≤_, _<_};
 ghost use mathlib.Core.Path.{_≡_};
-ghost use mathlib.Core.List.{_++_};
 ghost use lib.ListN.{length, take};
 ghost use Rattle.io.specs.Counts.{Counts};
 ghost use Rattle.list.specs.Limits.{rowRoom, storeRoom};
-ghost use Rattle.run.specs.Limits.{inputLimit, digitRoom, lineRoom, textRoom};
-ghost use Rattle.run.specs.Text.{decimal, listLine, endLine, stopLine, textOf, programText};
+ghost use Rattle.run.specs.Limits.{inputLimit, lineRoom, textRoom};
+ghost use Rattle.run.specs.Text.{listLine, endLine, stopLine, textOf, programText};
 ghost use Rattle.run.specs.Added.{Added};
 use libc::STDIN_FILENO;
 use libc::STDOUT_FILENO;
@@ -36,7 +35,7 @@ fn report(bytes: &[u8], rows: &mut [u32], store: &mut [u8], text: &mut [u8]) -> 
     ensures { λ r. ⌜ (take r (now (text .exit)) ≡ programText (now (bytes .entry))) × Counts r (now (text .exit)) ⌝ }
 {
     if INPUT_LIMIT < bytes.len() {
-        return put(text, 0, b"too long\n");
+        return text::put(text, 0, b"too long\n");
     }
     stream_text(bytes, rows, store, text)
 }
@@ -68,10 +67,9 @@ fn list_line(text: &mut [u8], used: usize, k: usize, consumed: usize, rows: usiz
     requires { ⌜ used + lineRoom ≤ length (now text) ⌝ }
     ensures { λ r. ⌜ Added (now (text .entry)) used (now (text .exit)) r (listLine k consumed rows) × (r ≤ used + lineRoom) ⌝ }
 {
-    let a = labelled(text, used, b"list ", k);
-    let b = labelled(text, a, b" bytes ", consumed);
-    let c = labelled(text, b, b" rows ", rows);
-    put(text, c, b"\n")
+    let a = text::put_number(text, used, b"list ", k as u64);
+    let b = text::put_number(text, a, b" bytes ", consumed as u64);
+    text::put_line(text, b, b" rows ", rows as u64)
 }
 
 // `end 112`
@@ -79,8 +77,7 @@ fn end_line(text: &mut [u8], used: usize, offset: usize) -> usize
     requires { ⌜ used + lineRoom ≤ length (now text) ⌝ }
     ensures { λ r. ⌜ Added (now (text .entry)) used (now (text .exit)) r (endLine offset) × (r ≤ used + lineRoom) ⌝ }
 {
-    let a = labelled(text, used, b"end ", offset);
-    put(text, a, b"\n")
+    text::put_line(text, used, b"end ", offset as u64)
 }
 
 // `stop 21 at 112`
@@ -88,26 +85,6 @@ fn stop_line(text: &mut [u8], used: usize, error: u8, offset: usize) -> usize
     requires { ⌜ used + lineRoom ≤ length (now text) ⌝ }
     ensures { λ r. ⌜ Added (now (text .entry)) used (now (text .exit)) r (stopLine error offset) × (r ≤ used + lineRoom) ⌝ }
 {
-    let a = labelled(text, used, b"stop ", error as usize);
-    let b = labelled(text, a, b" at ", offset);
-    put(text, b, b"\n")
-}
-
-// A label and a number in decimal.
-fn labelled(text: &mut [u8], used: usize, label: &[u8], n: usize) -> usize
-    requires { ⌜ used + length (now label) + digitRoom ≤ length (now text) ⌝ }
-    ensures { λ r. ⌜ Added (now (text .entry)) used (now (text .exit)) r (now (label .entry) ++ decimal n) × (r ≤ used + length (now (label .entry)) + digitRoom) ⌝ }
-{
-    let a = put(text, used, label);
-    let mut digits = [0u8; 20];
-    let count = io::decimal(n as u64, &mut digits);
-    put(text, a, &digits[..count])
-}
-
-fn put(text: &mut [u8], used: usize, part: &[u8]) -> usize
-    requires { ⌜ used + length (now part) ≤ length (now text) ⌝ }
-    ensures { λ r. ⌜ Added (now (text .entry)) used (now (text .exit)) r (now (part .entry)) ⌝ }
-{
-    wire::copy_at(text, used, part);
-    used + part.len()
+    let a = text::put_number(text, used, b"stop ", error as u64);
+    text::put_line(text, a, b" at ", offset as u64)
 }

@@ -1,11 +1,12 @@
 -- The fewest decimal digits of a number are its decimal text, and eight hexadecimal digits hold a number of 32 bits.
 use Prim.Native.Nat.{ℕ, zero, suc, _+_, _-_, _/_, _%_, _^_, _≤_, _<_}
-use mathlib.Core.Bool.{Bool, true, false}
+use mathlib.Core.Bool.{Bool, true, false, cond}
 use mathlib.Core.Path.{_≡_, refl, ap}
 use mathlib.Core.List.{List, [], _∷_, _++_}
 use native.Mathlib.Omega.{arith}
 use native.Mathlib.Nat.{pow-suc, pow-le-pow-right}
-use lib.Dec.{leb}
+use lib.Dec.{leb, ltb}
+use lib.ListN.{length, length-append}
 use borrow.Author.Tests.{lt-ltb, le-ltb, leb-true, leb-false}
 use Rattle.io.specs.Digits.{glyph, digits, Fewest}
 use Rattle.text.specs.Digits.{decimalOf, decimal, digitRoom, hexWord}
@@ -58,3 +59,16 @@ word-digits k n h f =
     let most : k ≤ 8 = fewest-most 16 8 8 k n (omega arith) (omega arith) (omega arith) f in
     let same : k ≡ 8 = omega (arith, f .0) in
     rw same
+
+-- a number in decimal has at most as many digits as it may
+few-digits : (most n : ℕ) → length (decimalOf most n) ≤ most
+unfolding decimalOf
+few-digits zero n = omega arith
+few-digits (suc most) n = go (ltb n 10) (few-digits most (n / 10))
+  where
+    go : (b : Bool) → length (decimalOf most (n / 10)) ≤ most → length (cond b ((48 + n) ∷ []) (decimalOf most (n / 10) ++ ((48 + n % 10) ∷ []))) ≤ suc most
+    go true h = omega arith
+    go false h = rw (length-append (decimalOf most (n / 10)) ((48 + n % 10) ∷ [])) (omega arith)
+
+pub decimal-short : (n : ℕ) → length (decimal n) ≤ digitRoom
+decimal-short n = few-digits digitRoom n

@@ -1,24 +1,23 @@
 -- Laws of pieces that are put into a buffer.
 use Prim.Native.Nat.{ℕ, _+_, _-_, _/_, _%_, _≤_, _<_}
-use mathlib.Core.Bool.{Bool, true, false}
-use mathlib.Core.Path.{_≡_, refl, sym}
-use mathlib.Core.List.{List}
+use mathlib.Core.Bool.{Bool, true, false, cond}
+use mathlib.Core.Path.{_≡_, refl, sym, _∙_}
+use mathlib.Core.List.{List, [], _∷_}
 use native.Mathlib.Numerals.{add-one}
 use native.Mathlib.Omega.{arith}
 use lib.Dec.{leb}
 use lib.ListN.{length, drop, getD, set}
-use lib.Seq.{drop-cons}
+use lib.Seq.{drop-cons, sets, length-sets}
 use borrow.Author.Tests.{le-leb, lt-leb, leb-true, leb-false}
 use Rattle.io.specs.Digits.{glyph}
-use Rattle.wire.specs.Area.{putAt}
 use Rattle.text.specs.Digits.{hexByte}
 use Rattle.text.specs.Text.{Text, text, put, puts, putBytes}
 
 -- a piece that fits
-pub put-in : (buffer : List ℕ) (used : ℕ) (piece : List ℕ) → used + length piece ≤ length buffer
-    → text (putAt buffer used piece) (used + length piece) ≡ put (text buffer used) piece
+pub put-fits : (buffer : List ℕ) (used : ℕ) (piece : List ℕ) → used + length piece ≤ length buffer
+    → put (text buffer used) piece ≡ text (sets buffer used piece) (used + length piece)
 unfolding put
-put-in buffer used piece h = rw (le-leb (used + length piece) (length buffer) h)
+put-fits buffer used piece h = rw (le-leb (used + length piece) (length buffer) h)
 
 -- a piece that does not fit
 pub put-out : (buffer : List ℕ) (used : ℕ) (piece : List ℕ) → length buffer < used + length piece → text buffer used ≡ put (text buffer used) piece
@@ -50,3 +49,17 @@ room-left a b n h = go (leb a (b - n)) refl
     go : (e : Bool) → leb a (b - n) ≡ e → e ≡ leb (a + n) b
     go true e = sym (le-leb (a + n) b (omega (arith, leb-true a (b - n) e)))
     go false e = sym (lt-leb (a + n) b (omega (arith, leb-false a (b - n) e)))
+
+length-put : (t : Text) (piece : List ℕ) → length (put t piece .buffer) ≡ length (t .buffer)
+unfolding put
+length-put t piece = go (leb (t .used + length piece) (length (t .buffer)))
+  where
+    go : (e : Bool) → length (cond e (text (sets (t .buffer) (t .used) piece) (t .used + length piece)) t .buffer) ≡ length (t .buffer)
+    go true = length-sets (t .buffer) (t .used) piece
+    go false = refl
+
+-- a buffer keeps its length
+pub length-puts : (t : Text) (pieces : List (List ℕ)) → length (puts t pieces .buffer) ≡ length (t .buffer)
+unfolding puts
+length-puts t [] = refl
+length-puts t (piece ∷ pieces) = length-puts (put t piece) pieces ∙ length-put t piece

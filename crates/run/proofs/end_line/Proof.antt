@@ -1,36 +1,24 @@
--- `run::end_line` meets its contract: its pieces in a row.
+-- `run::end_line` meets its contract: it is one line.
 use borrow.Author.Needs.{needs}
 use Rattle.run.specs.Text.{endLine}
-use Rattle.run.proofs.Adding.{two-pieces}
+use Rattle.run.proofs.Adding.{line-added}
 use Rattle.run.proofs.end_line.Statement.{statement}
 use Rattle.run.proofs.end_line.Tie as tie
 
-slice-aggregate-labelled : tie.Need-slice-aggregate-labelled
-slice-aggregate-labelled c = search needs
+slice-aggregate-put-line : tie.Need-slice-aggregate-put-line
+slice-aggregate-put-line c = search needs
 
-labelled-requires : tie.Need-labelled-requires
-labelled-requires c κs = search needs
-
-slice-aggregate-put : tie.Need-slice-aggregate-put
-slice-aggregate-put c = search needs
-
-put-requires : tie.Need-put-requires
-put-requires c κs = search needs
+put-line-requires : tie.Need-put-line-requires
+put-line-requires c κs = search needs
 
 same-length : tie.Need-same-length
 same-length c = search needs
 
 returns : tie.Need-returns
 unfolding endLine
-returns c = (two-pieces (c .before .before .before .before .before .before .before .labelled .ensures .0) (c .before .before .put .ensures), search needs)
+returns c =
+    let line = line-added _ _ (c .before .before .put-line .ensures) (search needs) in
+    (line .0, search needs)
 
 pub end-line-spec : {M : Type 1} → statement M
-end-line-spec =
-    tie.close
-    (tie.spec
-    slice-aggregate-labelled
-    labelled-requires
-    slice-aggregate-put
-    put-requires
-    same-length
-    returns)
+end-line-spec = tie.close (tie.spec slice-aggregate-put-line put-line-requires same-length returns)

@@ -3,6 +3,7 @@ use mathlib.Core.Path.{sym, _∙_}
 use lib.Seq.{length-take-le}
 use borrow.Author.Needs.{needs}
 use Rattle.run.specs.Text.{tooLong}
+use Rattle.run.proofs.Adding.{one-piece}
 use Rattle.run.proofs.Lines.{within-limit, over-limit}
 use Rattle.run.proofs.report.Statement.{statement}
 use Rattle.run.proofs.report.Tie as tie
@@ -20,7 +21,7 @@ returns : tie.Need-returns
 unfolding tooLong
 returns c =
     let a = c .before .before .before .before .before .before .before .before .before .before .args in
-    let added = c .before .before .put .ensures in
+    let added = one-piece _ (c .before .before .put .ensures) (search needs) in
     let size = added .size in
     (added .front ∙ sym (over-limit (a .bytes .now) (search needs)), (search needs, sym (length-take-le _ _ (search needs))))
 

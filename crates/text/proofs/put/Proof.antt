@@ -1,11 +1,12 @@
 -- `text::put` meets its contract: the piece is copied where it fits.
-use Prim.Native.Nat.{_+_}
-use mathlib.Core.Path.{_∙_, ap}
+use Prim.Native.Nat.{_+_, _≤_}
+use mathlib.Core.Path.{sym, ap, _∙_}
 use native.Mathlib.Omega.{arith}
 use lib.ListN.{length}
 use borrow.Author.Needs.{needs}
+use Rattle.wire.proofs.Buffers.{put-fits as area-fits}
 use Rattle.text.specs.Text.{text}
-use Rattle.text.proofs.Putting.{put-in, put-out}
+use Rattle.text.proofs.Putting.{put-fits, put-out}
 use Rattle.text.proofs.put.Statement.{statement}
 use Rattle.text.proofs.put.Tie as tie
 
@@ -24,7 +25,9 @@ same-length c = search needs
 returns : tie.Need-returns
 returns c =
     let a = c .before .before .before .before .before .before .before .before .args in
-    ap (λ l. text l (a .used + length (a .piece .now))) (c .before .before .copy-at .ensures) ∙ put-in (a .out .now) (a .used) (a .piece .now) (omega arith)
+    let room : a .used + length (a .piece .now) ≤ length (a .out .now) = omega arith in
+    ap (λ l. text l (a .used + length (a .piece .now))) (c .before .before .copy-at .ensures ∙ area-fits (a .out .now) (a .used) (a .piece .now) room)
+    ∙ sym (put-fits (a .out .now) (a .used) (a .piece .now) room)
 
 returns-2 : tie.Need-returns-2
 returns-2 c =
