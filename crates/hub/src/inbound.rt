@@ -71,9 +71,9 @@ fn dispatch(c: &[u8], t: Table, socket: u8, kind: u8, payload: &[u8], consumed: 
 pub fn receive(catalogue: &[u8], table: Table, socket: u8, bytes: &[u8]) -> Received
     ensures { λ r. ⌜ meaning r ≡ receivedOf (now (catalogue .entry)) table socket (now (bytes .entry)) ⌝ }
 {
-    let d = packet::decode(bytes);
-    let a = d.answer;
-    let message = d.message;
+    // The working copy is lent: one that the reader returns is copied on the way.
+    let mut message = [0u8; packet::PACKET_ROOM];
+    let a = packet::decode_into(bytes, &mut message);
     let packet::Answer::Packet {
         kind,
         payload_len,
