@@ -59,14 +59,14 @@ fn is_readable_if(b: u8, bit: u32) -> bool
 }
 
 // 16: each parameter that the map names is readable. Here and below `bytes` are those of the device type; the contract alone
-// asks for the catalogue.
+// asks for the catalogue. A loop over the map ends when no set bit is left, since most packets name few parameters.
 fn are_readable(c: &[u8], device: u8, bytes: [u8; PARAMS], map: u32) -> bool
     requires { ⌜ BytesIn (now c) (deviceOf (now c) device) bytes ⌝ }
     ensures { λ r. ⌜ r ≡ allReadable (now (c .entry)) device map ⌝ }
 {
     let mut rest = map;
     let mut p: usize = 0;
-    while p < PARAMS {
+    while 0 < rest {
         if is_readable_if(bytes[p], rest % 2) {
             rest = rest / 2;
             p += 1;
@@ -96,7 +96,7 @@ fn size_of(c: &[u8], device: u8, bytes: [u8; PARAMS], map: u32) -> usize
     let mut rest = map;
     let mut at: usize = MAP_BYTES;
     let mut p: usize = 0;
-    while p < PARAMS {
+    while 0 < rest {
         at += span_if(bytes[p], rest % 2);
         rest = rest / 2;
         p += 1;
@@ -125,7 +125,7 @@ fn are_flags(c: &[u8], device: u8, bytes: [u8; PARAMS], map: u32, payload: &[u8]
     let mut rest = map;
     let mut at: usize = MAP_BYTES;
     let mut p: usize = 0;
-    while p < PARAMS {
+    while 0 < rest {
         if is_flag_if(bytes[p], rest % 2, payload, at) {
             at += span_if(bytes[p], rest % 2);
             rest = rest / 2;
@@ -163,7 +163,7 @@ fn store(c: &[u8], device: u8, bytes: [u8; PARAMS], map: u32, payload: &[u8], s:
     let mut rest = map;
     let mut at: usize = MAP_BYTES;
     let mut p: usize = 0;
-    while p < PARAMS {
+    while 0 < rest {
         if rest % 2 == 1 {
             let q = catalogue::describe(bytes[p]);
             let v = value_at(q.kind, payload, at);

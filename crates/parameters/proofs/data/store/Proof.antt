@@ -1,8 +1,8 @@
 -- `parameters::data::store` meets its contract. Invariant: the row has the values of the first p parameters, `at` is where
 -- parameter p's value starts, and `rest` is the map without the bits below p.
-use Prim.Native.Nat.{_+_, _*_, _-_, _/_, _%_, _^_, _≤_}
+use Prim.Native.Nat.{_+_, _*_, _/_, _%_, _^_, _≤_}
 use mathlib.Core.Bool.{true, false}
-use mathlib.Core.Path.{_≡_, refl, ap, _∙_}
+use mathlib.Core.Path.{_≡_, refl, sym, ap, _∙_}
 use mathlib.Core.Logic.{⊎-elim}
 use native.Mathlib.Omega.{arith}
 use borrow.Author.Needs.{needs}
@@ -11,6 +11,7 @@ use Rattle.catalogue.specs.declared.Parameter.{Parameter}
 use Rattle.catalogue.proofs.Bytes.{kind-is}
 use Rattle.table.specs.Slots.{paramCount}
 use Rattle.parameters.specs.Data.{named, offsetOf, storedTo}
+use Rattle.parameters.proofs.Rests.{bit-below, stored-rest}
 use Rattle.parameters.proofs.Steps.{rest-more, rest-none, offset-named, offset-unnamed, stored-named, stored-unnamed}
 use Rattle.parameters.proofs.data.store.Statement.{statement}
 use Rattle.parameters.proofs.data.store.Tie as tie
@@ -23,14 +24,14 @@ Inv-loop c device map payload bytes t₀ rest₀ at₀ p₀ t rest at p =
     (p ≤ paramCount) × (rest ≡ map / 2 ^ p) × (at ≡ offsetOf c device map p) × (at ≤ 4 + 4 * p) × (t ≡ storedTo c device map payload t₀ p)
 
 abbrev μ-loop : tie.MeasureT-loop
-μ-loop c device map payload bytes t₀ rest₀ at₀ p₀ t rest at p = paramCount - p
+μ-loop c device map payload bytes t₀ rest₀ at₀ p₀ t rest at p = rest
 
 loop-holds : tie.Need-loop-holds Inv-loop μ-loop
 unfolding offsetOf storedTo
 loop-holds c = (omega arith, rest-none _, refl, omega arith, refl)
 
 array-read-describe : tie.Need-array-read-describe Inv-loop μ-loop
-array-read-describe c = search needs
+array-read-describe c = bit-below (c .before .before .before .before .before .args .map) (omega arith) (c .before .before .loop .inv .0) (c .before .before .loop .inv .1) (c .before .loop-test .taken)
 
 describe-requires : tie.Need-describe-requires Inv-loop μ-loop
 describe-requires c κs = search needs
@@ -39,13 +40,13 @@ value-at-requires : tie.Need-value-at-requires Inv-loop μ-loop
 value-at-requires c κs = search needs
 
 element-write-t : tie.Need-element-write-t Inv-loop μ-loop
-element-write-t c = search needs
+element-write-t c = bit-below (c .before .before .before .before .before .before .before .args .map) (omega arith) (c .before .before .before .before .loop .inv .0) (c .before .before .before .before .loop .inv .1) (c .before .before .before .loop-test .taken)
 
 mul-t : tie.Need-mul-t Inv-loop μ-loop
 mul-t c = search needs
 
 element-write-t-2 : tie.Need-element-write-t-2 Inv-loop μ-loop
-element-write-t-2 c = search needs
+element-write-t-2 c = bit-below (c .before .before .before .before .before .before .before .args .map) (omega arith) (c .before .before .before .before .loop .inv .0) (c .before .before .before .before .loop .inv .1) (c .before .before .before .loop-test .taken)
 
 width-of-requires : tie.Need-width-of-requires Inv-loop μ-loop
 width-of-requires c κs = search needs
@@ -63,6 +64,7 @@ loop-again : tie.Need-loop-again Inv-loop μ-loop
 loop-again c =
     let a = c .before .before .before .before .before .args in
     let l = c .before .before .loop in
+    let below = bit-below (a .map) (omega arith) (l .inv .0) (l .inv .1) (c .before .loop-test .taken) in
     let yes : l .rest % 2 ≡ 1 → named (a .map) (l .p) ≡ true = λ e. rw (← l .inv .1) (eq-eqb _ _ e) in
     let no : (l .rest % 2 ≡ 1 → ⊥) → named (a .map) (l .p) ≡ false = λ e. rw (← l .inv .1) (ne-eqb _ _ e) in
     let offset-is = offset-named (a .c .now) (a .device) (a .map) (l .p) in
@@ -88,7 +90,7 @@ loop-again c =
     (c .if1 .came)
 
 returns : tie.Need-returns Inv-loop μ-loop
-returns c = let e : c .before .loop .p ≡ paramCount = omega arith in c .before .loop .inv .4 ∙ rw e
+returns c = c .before .loop .inv .4 ∙ sym (stored-rest (c .before .before .before .before .args .map) (c .before .loop .inv .0) (c .before .loop .inv .1) (c .loop-test .left) _ _ _ _)
 
 pub store-spec : {M : Type 1} → statement M
 store-spec =

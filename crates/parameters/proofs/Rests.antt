@@ -1,0 +1,73 @@
+-- The rest of a map, without the bits below p. When it is 0, no parameter from p on is named, and what each definition says
+-- of all parameters is what it says of the first p.
+use Prim.Native.Nat.{ℕ, zero, suc, _+_, _/_, _^_, _≤_, _<_}
+use mathlib.Core.Path.{_≡_, refl, sym, ap, _∙_}
+use mathlib.Core.Bool.{Bool, true, false}
+use mathlib.Core.List.{List}
+use mathlib.Core.Logic.{⊎-elim}
+use native.Mathlib.Numerals.{add-one}
+use native.Mathlib.Nat.{div-eq-of-lt, eq-or-lt-of-le}
+use native.Mathlib.Omega.{arith}
+use Rattle.wire.proofs.Chains.{every-more}
+use Rattle.wire.specs.Every.{every}
+use Rattle.table.specs.Slots.{paramCount}
+use Rattle.table.specs.declared.Slot.{Slot}
+use Rattle.parameters.specs.Data.{allReadable, allFlags, named, readableIf, flagIf, valueIn, offsetOf, storedTo}
+use Rattle.parameters.proofs.Steps.{rest-more, offset-unnamed, stored-unnamed}
+
+-- what holds at p and goes from each index to the next holds from p on
+from-on : (P : ℕ → Type 0) (p : ℕ) → P p → ((q : ℕ) → p ≤ q → P q → P (q + 1)) → (n : ℕ) → p ≤ n → P n
+from-on P p first step zero h = let e : 0 ≡ p = omega arith in rw e first
+from-on P p first step (suc n) h =
+    ⊎-elim
+    (λ (e : p ≡ suc n). rw (← e) first)
+    (λ (l : p < suc n). rw (← add-one n) (step n (omega arith) (from-on P p first step n (omega arith))))
+    (eq-or-lt-of-le h)
+
+-- a bit is left, so that p is one of the 32
+pub bit-below : (map : ℕ) {rest p : ℕ} → map < 4294967296 → p ≤ paramCount → rest ≡ map / 2 ^ p → 0 < rest → p < paramCount
+bit-below map {rest} {p} m h e r =
+    ⊎-elim
+    (λ (s : p ≡ paramCount).
+    let z : map / 2 ^ paramCount ≡ 0 = div-eq-of-lt m in
+    let y : rest ≡ 0 = e ∙ ap (λ (q : ℕ). map / 2 ^ q) s ∙ z in
+    absurd (omega arith))
+    (λ (l : p < paramCount). l)
+    (eq-or-lt-of-le h)
+
+module _ (map : ℕ) {rest p : ℕ} (h : p ≤ paramCount) (e : rest ≡ map / 2 ^ p) (none : rest ≤ 0) where
+  no-rest : (q : ℕ) → p ≤ q → map / 2 ^ q ≡ 0
+  no-rest =
+      from-on (λ q. map / 2 ^ q ≡ 0) p (let z : rest ≡ 0 = omega arith in sym e ∙ z) (λ q l z. rw (rest-more map q, z))
+
+  unnamed : (q : ℕ) → p ≤ q → named map q ≡ false
+  unnamed q l = rw (no-rest q l)
+
+  pub offset-rest : (c : List ℕ) (device : ℕ) → offsetOf c device map paramCount ≡ offsetOf c device map p
+  offset-rest c device =
+      from-on (λ q. offsetOf c device map q ≡ offsetOf c device map p) p refl
+      (λ q l i. offset-unnamed c device map q (unnamed q l) ∙ i) paramCount h
+
+  pub stored-rest :
+      (c : List ℕ) (device : ℕ) (payload : List ℕ) (s : Slot) →
+      storedTo c device map payload s paramCount ≡ storedTo c device map payload s p
+  stored-rest c device payload s =
+      from-on (λ q. storedTo c device map payload s q ≡ storedTo c device map payload s p) p refl
+      (λ q l i. stored-unnamed c device map q payload s (unnamed q l) ∙ i) paramCount h
+
+  -- a test that needs no more than an unset bit
+  every-rest : (test : ℕ → Bool) → ((q : ℕ) → named map q ≡ false → test q ≡ true) → every p test ≡ true → every paramCount test ≡ true
+  every-rest test free i =
+      from-on (λ q. every q test ≡ true) p i (λ q l k. every-more q test k (free q (unnamed q l))) paramCount h
+
+  pub readable-rest :
+      (c : List ℕ) (device : ℕ) → every p (λ q. readableIf c device q (named map q)) ≡ true → true ≡ allReadable c device map
+  unfolding allReadable
+  readable-rest c device i = sym (every-rest (λ q. readableIf c device q (named map q)) (λ q n. rw n) i)
+
+  pub flags-rest :
+      (c : List ℕ) (device : ℕ) (payload : List ℕ) →
+      every p (λ q. flagIf c device q (named map q) (valueIn c device map payload q)) ≡ true → true ≡ allFlags c device map payload
+  unfolding allFlags
+  flags-rest c device payload i =
+      sym (every-rest (λ q. flagIf c device q (named map q) (valueIn c device map payload q)) (λ q n. rw n) i)
