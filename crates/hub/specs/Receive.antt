@@ -49,7 +49,7 @@ refusing t number = keeping t (refused number)
 abbrev pub accepting : Table → ℕ → Receiving
 accepting t consumed = keeping t (accepted consumed)
 
--- an ACK or DEVICE_DATA that changes the table answers the bytes of its packet
+-- an ACK or DEVICE_DATA that is accepted answers the bytes of its packet
 abbrev pub answeringBy : Answer → Table → ℕ → Receiving
 answeringBy answer.Accepted t consumed = accepting t consumed
 answeringBy (answer.Refused number) t consumed = refusing t number

@@ -37,6 +37,10 @@ putBytes t bytes = puts t (map hexByte bytes)
 abbrev pub putFront : Text → List ℕ → ℕ → Text
 putFront t list n = cond (leb n (length list)) (putBytes t (take n list)) t
 
+-- what is handed to standard output: all that is in use, where the buffer has so much; else nothing
+abbrev pub handed : List ℕ → ℕ → ℕ
+handed buffer used = cond (leb used (length buffer)) used 0
+
 -- the longest line: two digits for each byte of a list of 4,096, and 256 bytes for the words around them
 abbrev pub lineRoom : ℕ
 lineRoom = 8448

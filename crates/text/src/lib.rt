@@ -6,7 +6,7 @@ ghost use lib.Dec.{leb};
 ghost use lib.ListN.{length};
 ghost use Rattle.io.specs.Digits.{glyph};
 ghost use Rattle.text.specs.Digits.{decimal, hexByte, hexWord};
-ghost use Rattle.text.specs.Text.{text as Text·text, put as Text·put, puts, putBytes, putFront, newline, lineRoom, kept};
+ghost use Rattle.text.specs.Text.{text as Text·text, put as Text·put, puts, putBytes, putFront, newline, handed, lineRoom, kept};
 use libc::STDOUT_FILENO;
 
 // The longest line: two digits for each byte of a list, and words around them.
@@ -100,11 +100,15 @@ fn digit(d: u8) -> u8
     87 + d
 }
 
-// Writes what is collected to standard output.
-pub fn flush(out: &[u8], used: usize) {
-    if used <= out.len() {
-        io::write_all(STDOUT_FILENO, &out[..used]);
+// Hands what is collected to standard output; answers how many bytes that are.
+pub fn flush(out: &[u8], used: usize) -> usize
+    ensures { λ r. ⌜ r ≡ handed (now (out .entry)) used ⌝ }
+{
+    if out.len() < used {
+        return 0;
     }
+    io::write_all(STDOUT_FILENO, &out[..used]);
+    used
 }
 
 // Room for a line: what is collected is written where too little is left.
