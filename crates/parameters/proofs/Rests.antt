@@ -12,7 +12,7 @@ use Rattle.wire.proofs.Chains.{every-more}
 use Rattle.wire.specs.Every.{every}
 use Rattle.table.specs.Slots.{paramCount}
 use Rattle.table.specs.declared.Slot.{Slot}
-use Rattle.parameters.specs.Data.{allReadable, allFlags, named, readableIf, flagIf, valueIn, offsetOf, storedTo}
+use Rattle.parameters.specs.Data.{allFlags, named, flagIf, valueIn, offsetOf, storedTo}
 use Rattle.parameters.proofs.Steps.{rest-more, offset-unnamed, stored-unnamed}
 
 -- what holds at p and goes from each index to the next holds from p on
@@ -55,19 +55,10 @@ module _ (map : ℕ) {rest p : ℕ} (h : p ≤ paramCount) (e : rest ≡ map / 2
       from-on (λ q. storedTo c device map payload s q ≡ storedTo c device map payload s p) p refl
       (λ q l i. stored-unnamed c device map q payload s (unnamed q l) ∙ i) paramCount h
 
-  -- a test that needs no more than an unset bit
-  every-rest : (test : ℕ → Bool) → ((q : ℕ) → named map q ≡ false → test q ≡ true) → every p test ≡ true → every paramCount test ≡ true
-  every-rest test free i =
-      from-on (λ q. every q test ≡ true) p i (λ q l k. every-more q test k (free q (unnamed q l))) paramCount h
-
-  pub readable-rest :
-      (c : List ℕ) (device : ℕ) → every p (λ q. readableIf c device q (named map q)) ≡ true → true ≡ allReadable c device map
-  unfolding allReadable
-  readable-rest c device i = sym (every-rest (λ q. readableIf c device q (named map q)) (λ q n. rw n) i)
-
   pub flags-rest :
       (c : List ℕ) (device : ℕ) (payload : List ℕ) →
       every p (λ q. flagIf c device q (named map q) (valueIn c device map payload q)) ≡ true → true ≡ allFlags c device map payload
   unfolding allFlags
   flags-rest c device payload i =
-      sym (every-rest (λ q. flagIf c device q (named map q) (valueIn c device map payload q)) (λ q n. rw n) i)
+      let test : ℕ → Bool = λ q. flagIf c device q (named map q) (valueIn c device map payload q) in
+      sym (from-on (λ q. every q test ≡ true) p i (λ q l k. every-more q test k (rw (unnamed q l))) paramCount h)
