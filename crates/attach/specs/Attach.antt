@@ -70,6 +70,10 @@ acknowledged c t socket payload =
     ifAdmitted (admitted c t socket) t
     (cond (eqb (length payload) ackBytes) (assigned c t socket payload) (refused t 8))
 
+-- the same by the paper's numbers
+abbrev pub acknowledging : List ℕ → Table → ℕ → List ℕ → Effect
+acknowledging c t socket payload = effectOf (acknowledged c t socket payload)
+
 -- "Leaving empties the row"; 15, "socket has no guest"
 abbrev pub emptied : Table → Place → Update
 emptied t (At i) = accepted (withSlot t i emptySlot)

@@ -6,7 +6,7 @@ use table::Table;
 use table::Update;
 ghost use mathlib.Core.Path.{_≡_};
 ghost use Rattle.table.specs.Slots.{Within, effectOf};
-ghost use Rattle.attach.specs.Attach.{uidElsewhere, uidFree, placeFor, placed, assigned, acknowledged, emptied, detaching};
+ghost use Rattle.attach.specs.Attach.{uidElsewhere, uidFree, placeFor, placed, assigned, acknowledging, emptied, detaching};
 
 // An ACK's payload: type, year and eight bytes of UID.
 const ACK_BYTES: usize = 10;
@@ -87,7 +87,7 @@ fn assign(c: &[u8], t: Table, socket: u8, payload: &[u8]) -> Update
 
 // An ACK's payload from a socket: 11, 9, 10, 8, 12, 14, 13, or the device has its slot.
 pub fn acknowledge(c: &[u8], t: Table, socket: u8, payload: &[u8]) -> Update
-    ensures { λ r. ⌜ r ≡ acknowledged (now (c .entry)) t socket (now (payload .entry)) ⌝ }
+    ensures { λ r. ⌜ effectOf r ≡ acknowledging (now (c .entry)) t socket (now (payload .entry)) ⌝ }
 {
     let admission = table::admit(c, t, socket);
     match admission {

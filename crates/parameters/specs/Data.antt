@@ -8,7 +8,7 @@ use Rattle.wire.specs.Every.{every}
 use Rattle.wire.specs.Number.{numberAt}
 use Rattle.catalogue.specs.Format.{kindInt, kindFloat, kindBool}
 use Rattle.catalogue.specs.Lookup.{parameterOf}
-use Rattle.table.specs.Slots.{paramCount, slotAt, withSlot, slotOf, refused, accepted}
+use Rattle.table.specs.Slots.{paramCount, slotAt, withSlot, slotOf, refused, accepted, Effect, effectOf}
 use Rattle.table.specs.Lawful.{admitted, ifAdmitted}
 use Rattle.table.specs.declared.Slot.{Slot}
 use Rattle.table.specs.declared.Table.{Table}
@@ -136,3 +136,7 @@ appliedBy c t socket payload = cond (dataSized (length payload)) (appliedAt c t 
 -- "Handing in: 11, 9, 10, packet, 19; .. for data .."
 unfoldable pub applied : List ℕ → Table → ℕ → List ℕ → Update
 applied c t socket payload = ifAdmitted (admitted c t socket) t (appliedBy c t socket payload)
+
+-- the same by the paper's numbers
+abbrev pub applying : List ℕ → Table → ℕ → List ℕ → Effect
+applying c t socket payload = effectOf (applied c t socket payload)

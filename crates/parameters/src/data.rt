@@ -12,8 +12,8 @@ ghost use lib.Dec.{leb, eqb};
 ghost use Rattle.wire.specs.Number.{numberAt};
 ghost use Rattle.catalogue.specs.Format.{kindBool, described};
 ghost use Rattle.catalogue.specs.Lookup.{deviceOf, BytesIn};
-ghost use Rattle.table.specs.Slots.{slotCount, paramCount};
-ghost use Rattle.parameters.specs.Data.{width, sizeOf, allReadable, allFlags, judged, storedTo, appliedTo, dataSized, appliedBy, applied};
+ghost use Rattle.table.specs.Slots.{slotCount, paramCount, effectOf};
+ghost use Rattle.parameters.specs.Data.{width, sizeOf, allReadable, allFlags, judged, storedTo, appliedTo, dataSized, appliedBy, applying};
 
 // The bytes before the first value: the map's.
 const MAP_BYTES: usize = 4;
@@ -224,7 +224,7 @@ fn apply_payload(c: &[u8], t: Table, socket: u8, payload: &[u8]) -> Update
 
 // A DEVICE_DATA payload from a socket: 11, 9, 10, 8, 15, 16, 17, 18, or the values that its map names are replaced.
 pub fn apply_data(c: &[u8], t: Table, socket: u8, payload: &[u8]) -> Update
-    ensures { λ r. ⌜ r ≡ applied (now (c .entry)) t socket (now (payload .entry)) ⌝ }
+    ensures { λ r. ⌜ effectOf r ≡ applying (now (c .entry)) t socket (now (payload .entry)) ⌝ }
 {
     let a = table::admit(c, t, socket);
     match a {

@@ -6,3 +6,4 @@ pub mod Keeps
 pub mod Admission
 pub mod Outcome
 pub mod ByBytes
+pub mod Answers

@@ -10,7 +10,7 @@ use Rattle.wire.specs.Every.{every}
 use Rattle.catalogue.specs.Format.{kindBool, legal}
 use Rattle.catalogue.specs.Lookup.{deviceOf, parameterOf}
 use Rattle.catalogue.specs.declared.Parameter.{Parameter}
-use Rattle.table.specs.Slots.{slotCount, socketCount, paramCount, slotAt, refused}
+use Rattle.table.specs.Slots.{slotCount, socketCount, paramCount, slotAt, refused, Verdict, verdictOf}
 use Rattle.table.specs.declared.Slot.{Slot}
 use Rattle.table.specs.declared.Table.{Table}
 use Rattle.table.specs.declared.Answer.{Answer}
@@ -85,6 +85,10 @@ lawful c t = every slotCount (lawfulAt c t)
 -- "Handing in: 11, 9, 10", and the same before leaving and reading
 unfoldable pub admitted : List ℕ → Table → ℕ → Answer
 admitted c t socket = cond (legal c) (cond (lawful c t) (cond (ltb socket socketCount) Accepted (Refused 10)) (Refused 9)) (Refused 11)
+
+-- the same by the paper's numbers
+abbrev pub admission : List ℕ → Table → ℕ → Verdict
+admission c t socket = verdictOf (admitted c t socket)
 
 -- what a call does, where 11, 9 and 10 are not given
 abbrev pub ifAdmitted : Answer → Table → Update → Update

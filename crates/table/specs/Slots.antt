@@ -123,3 +123,7 @@ pub record Effect : Type 0 where
 -- what an update says
 abbrev pub effectOf : Update → Effect
 effectOf u = record { verdict = verdictOf (u .answer); table = u .table }
+
+-- a refusal by the paper's number, the table as it was
+abbrev pub refusal : Table → ℕ → Effect
+refusal t number = effectOf (refused t number)

@@ -10,8 +10,8 @@ ghost use mathlib.Core.Path.{_≡_};
 ghost use lib.ListN.{getD};
 ghost use Rattle.wire.specs.Every.{every};
 ghost use Rattle.catalogue.specs.Format.{described};
-ghost use Rattle.table.specs.Slots.{slotCount, paramCount, slotAt};
-ghost use Rattle.table.specs.Lawful.{presentAt, bitsAt, valueLawful, nothingHeld, slotLawful, slotsDiffer, lawfulAt, lawful, admitted};
+ghost use Rattle.table.specs.Slots.{slotCount, paramCount, slotAt, verdictOf};
+ghost use Rattle.table.specs.Lawful.{presentAt, bitsAt, valueLawful, nothingHeld, slotLawful, slotsDiffer, lawfulAt, lawful, admission};
 
 // A value by its parameter's byte.
 fn is_lawful_value(b: u8, present: bool, bits: u32) -> bool
@@ -129,7 +129,7 @@ pub fn is_lawful(c: &[u8], t: Table) -> bool
 
 // What a call for a socket is judged by first: 11, 9, 10.
 pub fn admit(c: &[u8], t: Table, socket: u8) -> Answer
-    ensures { λ r. ⌜ r ≡ admitted (now (c .entry)) t socket ⌝ }
+    ensures { λ r. ⌜ verdictOf r ≡ admission (now (c .entry)) t socket ⌝ }
 {
     if catalogue::is_legal(c) {
         if is_lawful(c, t) {

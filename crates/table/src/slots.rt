@@ -9,7 +9,7 @@ use crate::Update;
 ghost use Prim.Native.Nat.{_<_};
 ghost use mathlib.Core.Path.{_≡_};
 ghost use mathlib.Core.Bool.{true};
-ghost use Rattle.table.specs.Slots.{freshSlot, emptySlot, emptyTable, holds, slotOf, freeOf, Within, refused};
+ghost use Rattle.table.specs.Slots.{freshSlot, emptySlot, emptyTable, holds, slotOf, freeOf, Within, effectOf, refusal};
 
 // A row with no values held: every row is made here.
 fn fresh_slot(taken: bool, socket: u8, device: u8, year: u8, uid: u64) -> Slot
@@ -92,7 +92,7 @@ pub fn free_slot(t: Table) -> Place
 
 // Refused with an error number, the table as it was.
 pub fn refuse(t: Table, number: u8) -> Update
-    ensures { λ r. ⌜ r ≡ refused t number ⌝ }
+    ensures { λ r. ⌜ effectOf r ≡ refusal t number ⌝ }
 {
     Update {
         answer: Answer::Refused(number),

@@ -1,6 +1,9 @@
 -- `attach::acknowledge` meets its contract, by what is judged first.
+use mathlib.Core.Path.{ap}
 use borrow.Author.Needs.{needs}
 use borrow.Author.Tests.{eq-eqb, ne-eqb}
+use Rattle.table.specs.Slots.{effectOf}
+use Rattle.table.proofs.Answers.{admitted-told}
 use Rattle.attach.specs.Attach.{acknowledged}
 use Rattle.attach.proofs.acknowledge.Statement.{statement}
 use Rattle.attach.proofs.acknowledge.Tie as tie
@@ -27,23 +30,21 @@ returns : tie.Need-returns
 unfolding acknowledged
 returns c =
     rw (
-      ← c .before .before .before .before .admit .ensures,
-      c .before .before .enum-told .given .1,
+      admitted-told _ _ _ _ _ (c .before .before .before .before .admit .ensures) (c .before .before .enum-told .given .1),
       eq-eqb _ _ (c .before .if1 .taken),
-    ) (c .assign .ensures)
+    ) (ap effectOf (c .assign .ensures))
 
 returns-2 : tie.Need-returns-2
 unfolding acknowledged
 returns-2 c =
     rw (
-      ← c .before .before .before .before .admit .ensures,
-      c .before .before .enum-told .given .1,
+      admitted-told _ _ _ _ _ (c .before .before .before .before .admit .ensures) (c .before .before .enum-told .given .1),
       ne-eqb _ _ (c .before .if1 .left),
     ) (c .refuse .ensures)
 
 returns-3 : tie.Need-returns-3
 unfolding acknowledged
-returns-3 c = rw (← c .before .before .before .before .admit .ensures, c .before .before .admission .given .1) (c .refuse2 .ensures)
+returns-3 c = rw (admitted-told _ _ _ _ _ (c .before .before .before .before .admit .ensures) (c .before .before .admission .given .1)) (c .refuse2 .ensures)
 
 pub acknowledge-spec : {M : Type 1} → statement M
 acknowledge-spec =

@@ -1,5 +1,6 @@
 -- `attach::assign` meets its contract, by the tests that lead to each answer.
 use borrow.Author.Needs.{needs}
+use Rattle.table.proofs.Answers.{effect-same}
 use Rattle.attach.specs.Attach.{assigned}
 use Rattle.attach.proofs.assign.Statement.{statement}
 use Rattle.attach.proofs.assign.Tie as tie
@@ -56,7 +57,7 @@ returns-2 c =
       c .before .before .before .if1 .taken,
       ← c .before .before .is-uid-free .ensures,
       c .before .if2 .left,
-    ) (c .refuse .ensures)
+    ) (effect-same _ _ (c .refuse .ensures))
 
 refuse-requires-2 : tie.Need-refuse-requires-2
 refuse-requires-2 c κs = search needs
@@ -68,7 +69,7 @@ returns-3 c =
       ← c .before .before .before .before .before .byte-at .ensures,
       ← c .before .before .find-device .ensures,
       c .before .if1 .left,
-    ) (c .refuse2 .ensures)
+    ) (effect-same _ _ (c .refuse2 .ensures))
 
 pub assign-spec : {M : Type 1} → statement M
 assign-spec =

@@ -2,6 +2,7 @@
 use mathlib.Core.Path.{ap}
 use borrow.Author.Needs.{needs}
 use Rattle.table.specs.Slots.{effectOf}
+use Rattle.table.proofs.Answers.{admitted-told}
 use Rattle.attach.specs.Attach.{detached}
 use Rattle.attach.proofs.detach.Statement.{statement}
 use Rattle.attach.proofs.detach.Tie as tie
@@ -28,14 +29,13 @@ returns : tie.Need-returns
 unfolding detached
 returns c =
     rw (
-      ← c .before .before .before .before .admit .ensures,
-      c .before .before .enum-told .given .1,
+      admitted-told _ _ _ _ _ (c .before .before .before .before .admit .ensures) (c .before .before .enum-told .given .1),
       ← c .before .find-slot .ensures .0,
     ) (ap effectOf (c .empty-place .ensures))
 
 returns-2 : tie.Need-returns-2
 unfolding detached
-returns-2 c = rw (← c .before .before .before .before .admit .ensures, c .before .before .a .given .1) (ap effectOf (c .refuse .ensures))
+returns-2 c = rw (admitted-told _ _ _ _ _ (c .before .before .before .before .admit .ensures) (c .before .before .a .given .1)) (c .refuse .ensures)
 
 pub detach-spec : {M : Type 1} → statement M
 detach-spec =

@@ -1,6 +1,7 @@
 -- `attach::empty_place` meets its contract, by the place.
 use native.Mathlib.Omega.{arith}
 use borrow.Author.Needs.{needs}
+use Rattle.table.proofs.Answers.{effect-same}
 use Rattle.attach.proofs.empty_place.Statement.{statement}
 use Rattle.attach.proofs.empty_place.Tie as tie
 
@@ -26,7 +27,7 @@ returns : tie.Need-returns
 returns c = rw (c .before .before .p .given .1, c .empty-slot .ensures)
 
 returns-2 : tie.Need-returns-2
-returns-2 c = rw (c .before .enum-told .given .1) (c .refuse .ensures)
+returns-2 c = rw (c .before .enum-told .given .1) (effect-same _ _ (c .refuse .ensures))
 
 pub empty-place-spec : {M : Type 1} → statement M
 empty-place-spec =

@@ -1,6 +1,7 @@
 -- `attach::place_row` meets its contract, by the place.
 use native.Mathlib.Omega.{arith}
 use borrow.Author.Needs.{needs}
+use Rattle.table.proofs.Answers.{effect-same}
 use Rattle.attach.proofs.place_row.Statement.{statement}
 use Rattle.attach.proofs.place_row.Tie as tie
 
@@ -23,7 +24,7 @@ returns : tie.Need-returns
 returns c = rw (c .before .p .given .1)
 
 returns-2 : tie.Need-returns-2
-returns-2 c = rw (c .before .enum-told .given .1) (c .refuse .ensures)
+returns-2 c = rw (c .before .enum-told .given .1) (effect-same _ _ (c .refuse .ensures))
 
 pub place-row-spec : {M : Type 1} → statement M
 place-row-spec =

@@ -2,6 +2,7 @@
 use mathlib.Core.Path.{_∙_}
 use borrow.Author.Needs.{needs}
 use borrow.Author.Tests.{ne-eqb}
+use Rattle.table.proofs.Answers.{effect-same}
 use Rattle.hub.specs.Receive.{byType}
 use Rattle.hub.proofs.Judgements.{ack-once, data-once}
 use Rattle.hub.proofs.inbound.dispatch.Statement.{statement}
@@ -27,11 +28,11 @@ answer-only-requires-2 c κs = search needs
 
 returns : tie.Need-returns
 returns c =
-    rw (c .before .before .match .keys1) (c .answer-update .ensures ∙ ack-once _ _ _ _ _ _ (c .before .acknowledge .ensures))
+    rw (c .before .before .match .keys1) (c .answer-update .ensures ∙ ack-once _ _ _ _ _ (c .before .acknowledge .result) (effect-same _ _ (c .before .acknowledge .ensures)))
 
 returns-2 : tie.Need-returns-2
 returns-2 c =
-    rw (c .before .before .match .keys2) (c .answer-update2 .ensures ∙ data-once _ _ _ _ _ _ (c .before .apply-data .ensures))
+    rw (c .before .before .match .keys2) (c .answer-update2 .ensures ∙ data-once _ _ _ _ _ (c .before .apply-data .result) (effect-same _ _ (c .before .apply-data .ensures)))
 
 returns-3 : tie.Need-returns-3
 unfolding byType

@@ -1,5 +1,6 @@
 -- `parameters::data::apply_at` meets its contract: judged first, then stored.
 use borrow.Author.Needs.{needs}
+use Rattle.table.proofs.Answers.{effect-same}
 use Rattle.parameters.specs.Data.{appliedTo}
 use Rattle.parameters.proofs.data.apply_at.Statement.{statement}
 use Rattle.parameters.proofs.data.apply_at.Tie as tie
@@ -52,7 +53,7 @@ returns c =
 
 returns-2 : tie.Need-returns-2
 unfolding appliedTo
-returns-2 c = rw (← c .before .before .before .before .judge .ensures, c .before .before .a .given .1) (c .refuse .ensures)
+returns-2 c = rw (← c .before .before .before .before .judge .ensures, c .before .before .a .given .1) (effect-same _ _ (c .refuse .ensures))
 
 pub apply-at-spec : {M : Type 1} → statement M
 apply-at-spec =

@@ -1,5 +1,6 @@
 -- `parameters::data::apply_payload` meets its contract, by the payload's length and the socket's slot.
 use borrow.Author.Needs.{needs}
+use Rattle.table.proofs.Answers.{effect-same}
 use Rattle.parameters.specs.Data.{appliedBy}
 use Rattle.parameters.proofs.data.apply_payload.Statement.{statement}
 use Rattle.parameters.proofs.data.apply_payload.Tie as tie
@@ -40,14 +41,14 @@ returns-2 c =
       c .before .before .before .before .if1 .taken,
       ← c .before .before .before .find-slot .ensures .0,
       c .before .enum-told .given .1,
-    ) (c .refuse .ensures)
+    ) (effect-same _ _ (c .refuse .ensures))
 
 refuse-requires-2 : tie.Need-refuse-requires-2
 refuse-requires-2 c κs = search needs
 
 returns-3 : tie.Need-returns-3
 unfolding appliedBy
-returns-3 c = rw (← c .before .before .is-data-size .ensures, c .before .if1 .left) (c .refuse2 .ensures)
+returns-3 c = rw (← c .before .before .is-data-size .ensures, c .before .if1 .left) (effect-same _ _ (c .refuse2 .ensures))
 
 pub apply-payload-spec : {M : Type 1} → statement M
 apply-payload-spec =

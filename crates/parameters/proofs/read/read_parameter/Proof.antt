@@ -1,5 +1,6 @@
 -- `parameters::read_parameter` meets its contract, by what is judged first.
 use borrow.Author.Needs.{needs}
+use Rattle.table.proofs.Answers.{admitted-told}
 use Rattle.parameters.specs.Read.{readOf}
 use Rattle.parameters.proofs.read.read_parameter.Statement.{statement}
 use Rattle.parameters.proofs.read.read_parameter.Tie as tie
@@ -23,14 +24,13 @@ returns : tie.Need-returns
 unfolding readOf
 returns c =
     rw (
-      ← c .before .before .before .before .admit .ensures,
-      c .before .before .enum-told .given .1,
+      admitted-told _ _ _ _ _ (c .before .before .before .before .admit .ensures) (c .before .before .enum-told .given .1),
       ← c .before .find-slot .ensures .0,
     ) (c .read-place .ensures)
 
 returns-2 : tie.Need-returns-2
 unfolding readOf
-returns-2 c = rw (← c .before .before .before .admit .ensures, c .before .a .given .1)
+returns-2 c = rw (admitted-told _ _ _ _ _ (c .before .before .before .admit .ensures) (c .before .a .given .1))
 
 pub read-parameter-spec : {M : Type 1} → statement M
 read-parameter-spec =
