@@ -12,15 +12,16 @@ use Rattle.wire.specs.Zero.{hasZero}
 use Rattle.list.specs.declared.Kind.{Kind}
 use Rattle.list.specs.declared.KindFound.{KindFound}
 use Rattle.list.specs.declared.KindFound.the-variants.{Is, Unknown}
+use Rattle.list.specs.Limits.{listLimit}
 use Rattle.list.specs.Kind.{codeOf, kindOf, listCode, typedCode}
 use Rattle.list.specs.Tree.{Value, Elements, none, value, list, kind, count}
 use Rattle.list.specs.Bytes.{common, commonOf, codeFor, listCodeOf}
-use Rattle.list.specs.Parse.{Parsed, good, bad, andThen, afterItem, itemFault, word, negative, closed, valueAt, typedAt, isListCode, codedValue, codedAt, mixedAt, elementsAt, finished, listAt}
+use Rattle.list.specs.Parse.{Parsed, good, bad, andThen, afterItem, itemFault, word, negative, closed, valueAt, typedAt, isListCode, codedValue, codedAt, mixedAt, elementsAt, finished, listAt, parse}
 use Rattle.list.proofs.Codes.{code-of-kind, code-none, code-all, AllKind, typed-no-list}
 use Rattle.list_check.specs.declared.Checked.{Checked}
 use Rattle.list_check.specs.declared.Checked.the-variants.{Ok, Bad}
 use Rattle.list_check.specs.declared.Head.{Head}
-use Rattle.list_check.specs.Check.{checked}
+use Rattle.list_check.specs.Check.{checked, verdictOf, checkingOf}
 use Rattle.list_check.specs.Steps.{unless, countAt, headFrom, otherHead, codedHead, headAt, closeOf, Within, WithinHead, Counted}
 use Rattle.list_check.specs.declared.Head.the-variants as head
 use Rattle.list_check.proofs.Codes.{list-high, list-mixed, kind-not-list}
@@ -48,6 +49,17 @@ was-read (bad f o) next h = absurd (let z : _≡_ {A = ℕ} 0 1 = cc in omega ar
 pub was-bad : {A : Type 0} (p : Parsed A) (fault offset : ℕ) → checked p ≡ Bad fault offset → p ≡ bad fault offset
 was-bad (good a n) fault offset h = absurd (let z : _≡_ {A = ℕ} 0 1 = cc in omega arith)
 was-bad (bad f o) fault offset h = let e : f ≡ fault = cc in let d : o ≡ offset = cc in rw (e, d)
+
+-- no two answers are the same verdict
+verdict-same : (a b : Checked) → verdictOf a ≡ verdictOf b → a ≡ b
+verdict-same (Ok n) (Ok n′) e = let f : n ≡ n′ = cc in rw f
+verdict-same (Bad n m) (Bad n′ m′) e = let f : n ≡ n′ = cc in let g : m ≡ m′ = cc in rw (f, g)
+verdict-same (Ok n) (Bad n′ m′) e = absurd (let z : _≡_ {A = ℕ} 0 1 = cc in omega arith)
+verdict-same (Bad n m) (Ok n′) e = absurd (let z : _≡_ {A = ℕ} 0 1 = cc in omega arith)
+
+-- so what judging promises is its answer
+pub check-told : (s : List ℕ) (a : Checked) → verdictOf a ≡ checkingOf s → a ≡ checked (parse listLimit s)
+check-told s a = verdict-same a (checked (parse listLimit s))
 
 kept : {A B : Type 0} (p : Parsed A) (f : A → B) → checked (andThen p (λ a end. good (f a) end)) ≡ checked p
 kept (good a n) f = refl

@@ -10,9 +10,9 @@ ghost use Prim.Native.Nat.{_+_, _≤_, _<_, _^_};
 ghost use lib.ListN.{length};
 ghost use Rattle.list.specs.Limits.{listLimit};
 ghost use Rattle.list.specs.Bytes.{common};
-ghost use Rattle.list.specs.Parse.{itemFault, word, closed, stringAt, blobAt, valueAt, typedAt, isListCode, listAt, finished, parse};
+ghost use Rattle.list.specs.Parse.{itemFault, word, closed, stringAt, blobAt, valueAt, typedAt, isListCode, listAt, finished};
 ghost use Rattle.list.specs.Kind.{listCode, typedCode};
-ghost use Rattle.list_check.specs.Check.{checked};
+ghost use Rattle.list_check.specs.Check.{checked, verdictOf, checkingOf};
 ghost use Rattle.list_check.specs.Steps.{lastEnd, fixedAt, countAt, headAt, headFrom, otherHead, closeOf, Within, WithinHead, Counted};
 
 // The bytes of a number.
@@ -352,7 +352,7 @@ fn check_list(s: &[u8], at: usize, code: u32, depth: usize) -> Checked
 
 // The list at the front.
 pub fn check(s: &[u8]) -> Checked
-    ensures { λ r. ⌜ r ≡ checked (parse listLimit (now (s .entry))) ⌝ }
+    ensures { λ r. ⌜ verdictOf r ≡ checkingOf (now (s .entry)) ⌝ }
 {
     let f = fault(s, 0, NUMBER);
     if f != 0 {

@@ -3,6 +3,7 @@ use Prim.Native.Nat.{ℕ, _*_, _≤_, _<_}
 use mathlib.Core.Path.{_≡_, refl, sym, ap, _∙_}
 use mathlib.Core.Bool.{Bool, true, false, _&&_}
 use mathlib.Core.List.{List}
+use native.Mathlib.Omega.{arith}
 use lib.Dec.{leb}
 use lib.ListN.{length}
 use borrow.Author.Tests.{le-leb, lt-leb}
@@ -10,14 +11,15 @@ use Rattle.list.specs.Limits.{listLimit, rowRoom, storeRoom}
 use Rattle.wire.specs.Area.{over}
 use Rattle.list.specs.Tree.{Elements}
 use Rattle.list.specs.Rows.{rowCount, listRows, listStore}
-use Rattle.list.specs.Parse.{Parsed, good, parse}
+use Rattle.list.specs.Parse.{Parsed, good, bad, parse}
 use Rattle.list_check.specs.declared.Checked.{Checked}
 use Rattle.list_check.specs.declared.Checked.the-variants.{Ok, Bad}
 use Rattle.list_check.specs.Check.{checked}
 use Rattle.list_check.proofs.Checks.{was-read, was-bad}
-use Rattle.list_decode.specs.Decode.{outcome, roomy, decodeOf}
-use Rattle.list_decode.specs.Packed.{packedRoomy, decodePackedOf}
+use Rattle.list_decode.specs.Decode.{Outcome, outcome, roomy, decodeOf, accepted, refused, readingOf, answeredBy, decodingOf}
+use Rattle.list_decode.specs.Packed.{packed, packedRoomy, decodePackedOf, decodingPackedOf}
 use Rattle.list_decode.specs.Items.{elementsOf, Layout, numbers, rowBytes, Filled}
+use Rattle.list_decode.specs.declared.Decoded.{Decoded}
 use Rattle.list_decode.specs.declared.Decoded.the-variants as decoded
 
 and-false : (b : Bool) → (b && false) ≡ false
@@ -79,3 +81,42 @@ module _ (s rows store : List ℕ) where
     unfolding decodePackedOf
     packed-whole consumed n rows′ store′ e f =
         let w = was-read (parse listLimit s) consumed (sym is ∙ e) in rw (packed-ready, w .1) (filled f (w .0) consumed (w .1))
+
+-- no two answers are the same reading
+reading-same : (a b : Decoded) → readingOf a ≡ readingOf b → a ≡ b
+reading-same (decoded.List n m) (decoded.List n′ m′) e = let f : n ≡ n′ = cc in let g : m ≡ m′ = cc in rw (f, g)
+reading-same (decoded.Refused n m) (decoded.Refused n′ m′) e = let f : n ≡ n′ = cc in let g : m ≡ m′ = cc in rw (f, g)
+reading-same (decoded.List n m) (decoded.Refused n′ m′) e = absurd (let z : _≡_ {A = ℕ} 0 1 = cc in omega arith)
+reading-same (decoded.Refused n m) (decoded.List n′ m′) e = absurd (let z : _≡_ {A = ℕ} 0 1 = cc in omega arith)
+
+-- so an outcome told in those words is the outcome itself
+pub told-outcome : {A B : Type 0} (words : A → B) → ((a b : A) → words a ≡ words b → a ≡ b) → (a : A) (rows store : List ℕ) (o : Outcome A)
+    → outcome (words a) rows store ≡ answeredBy words o → outcome a rows store ≡ o
+told-outcome {A} {B} words same a rows store o e =
+    let p : a ≡ o .answer = same a (o .answer) (ap (λ (x : Outcome B). x .answer) e) in
+    let q : rows ≡ o .rows = ap (λ (x : Outcome B). x .rows) e in
+    let r : store ≡ o .store = ap (λ (x : Outcome B). x .store) e in
+    ap (λ (z : A). outcome z rows store) p ∙ ap (λ (z : List ℕ). outcome (o .answer) z store) q ∙ ap (outcome (o .answer) (o .rows)) r
+
+pub reading-told : (a : Decoded) (rows store : List ℕ) (o : Outcome Decoded) → outcome (readingOf a) rows store ≡ answeredBy readingOf o → outcome a rows store ≡ o
+reading-told = told-outcome readingOf reading-same
+
+-- what is promised, case by case
+module _ (s rows store : List ℕ) where
+  pub decoding-short : roomy rows store ≡ false → decodingOf s rows store ≡ outcome (refused 20 0) rows store
+  unfolding decodeOf
+  decoding-short r = rw r
+
+  pub decoding-fault : (number offset : ℕ) → roomy rows store ≡ true → parse listLimit s ≡ bad number offset → decodingOf s rows store ≡ outcome (refused number offset) rows store
+  unfolding decodeOf
+  decoding-fault number offset r p = rw (r, p)
+
+  pub decoding-found : (es : Elements) (n : ℕ) → roomy rows store ≡ true → parse listLimit s ≡ good es n
+      → decodingOf s rows store ≡ outcome (accepted n (rowCount es)) (over (listRows es) rows) (over (listStore es) store)
+  unfolding decodeOf
+  decoding-found es n r p = rw (r, p)
+
+  pub packed-decoding-found : (es : Elements) (n : ℕ) → packedRoomy rows store ≡ true → parse listLimit s ≡ good es n
+      → decodingPackedOf s rows store ≡ outcome (accepted n (rowCount es)) (over (packed (listRows es)) rows) (over (listStore es) store)
+  unfolding decodePackedOf
+  packed-decoding-found es n r p = rw (r, p)

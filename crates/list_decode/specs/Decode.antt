@@ -35,3 +35,21 @@ answered rows store (bad error offset) = outcome (decoded.Refused error offset) 
 unfoldable pub decodeOf : List ℕ → List ℕ → List ℕ → Outcome Decoded
 decodeOf s rows store =
     cond (roomy rows store) (answered rows store (parse listLimit s)) (outcome (decoded.Refused 20 0) rows store)
+
+-- what a reading finds: "answers bytes taken and rows filled", or the number of the refusal and "the place of the item at fault"
+pub data Reading : Type 0 where
+  accepted : (consumed rows : ℕ) → Reading
+  refused : (number offset : ℕ) → Reading
+
+-- the number or the values for each case of the answer
+abbrev pub readingOf : Decoded → Reading
+readingOf (decoded.List consumed rows) = accepted consumed rows
+readingOf (decoded.Refused error offset) = refused error offset
+
+-- an outcome with its answer in those words
+abbrev pub answeredBy : {A B : Type 0} → (A → B) → Outcome A → Outcome B
+answeredBy words o = outcome (words (o .answer)) (o .rows) (o .store)
+
+-- what reading a list promises
+abbrev pub decodingOf : List ℕ → List ℕ → List ℕ → Outcome Reading
+decodingOf s rows store = answeredBy readingOf (decodeOf s rows store)

@@ -12,7 +12,7 @@ use Rattle.list.specs.Rows.{listRows, listStore, rowCount}
 use Rattle.list.specs.Parse.{Parsed, good, bad, parse}
 use Rattle.list_decode.specs.declared.Decoded.{Decoded}
 use Rattle.list_decode.specs.declared.Decoded.the-variants as decoded
-use Rattle.list_decode.specs.Decode.{Outcome, outcome}
+use Rattle.list_decode.specs.Decode.{Outcome, outcome, Reading, readingOf, answeredBy}
 
 -- the bytes of numbers, one behind the other
 abbrev pub packed : List ℕ → List ℕ
@@ -33,3 +33,7 @@ packedAnswered rows store (bad error offset) = outcome (decoded.Refused error of
 unfoldable pub decodePackedOf : List ℕ → List ℕ → List ℕ → Outcome Decoded
 decodePackedOf s rows store =
     cond (packedRoomy rows store) (packedAnswered rows store (parse listLimit s)) (outcome (decoded.Refused 20 0) rows store)
+
+-- what reading a list promises
+abbrev pub decodingPackedOf : List ℕ → List ℕ → List ℕ → Outcome Reading
+decodingPackedOf s rows store = answeredBy readingOf (decodePackedOf s rows store)

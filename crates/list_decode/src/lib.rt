@@ -8,8 +8,8 @@ use list::ROW_BYTES;
 use list::ROW_NUMBERS;
 use list_check::Checked;
 ghost use mathlib.Core.Path.{_≡_};
-ghost use Rattle.list_decode.specs.Decode.{outcome, decodeOf};
-ghost use Rattle.list_decode.specs.Packed.{decodePackedOf};
+ghost use Rattle.list_decode.specs.Decode.{outcome, readingOf, decodingOf};
+ghost use Rattle.list_decode.specs.Packed.{decodingPackedOf};
 
 // The list at the front: the bytes it takes and the rows it fills; or 01's number and the offset of the item at fault.
 pub enum Decoded {
@@ -19,7 +19,7 @@ pub enum Decoded {
 
 // Reads the list at the front of `bytes` into rows of three numbers and a byte store. A refusal changes neither.
 pub fn decode(bytes: &[u8], rows: &mut [u32], store: &mut [u8]) -> Decoded
-    ensures { λ r. ⌜ outcome r (now (rows .exit)) (now (store .exit)) ≡ decodeOf (now (bytes .entry)) (now (rows .entry)) (now (store .entry)) ⌝ }
+    ensures { λ r. ⌜ outcome (readingOf r) (now (rows .exit)) (now (store .exit)) ≡ decodingOf (now (bytes .entry)) (now (rows .entry)) (now (store .entry)) ⌝ }
 {
     if rows.len() < ROW_NUMBERS {
         return Decoded::Refused {
@@ -45,7 +45,7 @@ pub fn decode(bytes: &[u8], rows: &mut [u32], store: &mut [u8]) -> Decoded
 
 // The same for callers whose rows are bytes: a row is 12 bytes, low byte first.
 pub fn decode_packed(bytes: &[u8], rows: &mut [u8], store: &mut [u8]) -> Decoded
-    ensures { λ r. ⌜ outcome r (now (rows .exit)) (now (store .exit)) ≡ decodePackedOf (now (bytes .entry)) (now (rows .entry)) (now (store .entry)) ⌝ }
+    ensures { λ r. ⌜ outcome (readingOf r) (now (rows .exit)) (now (store .exit)) ≡ decodingPackedOf (now (bytes .entry)) (now (rows .entry)) (now (store .entry)) ⌝ }
 {
     if rows.len() < ROW_BYTES {
         return Decoded::Refused {

@@ -4,18 +4,20 @@ use mathlib.Core.Path.{_≡_, refl, sym, ap, _∙_}
 use mathlib.Core.Bool.{Bool, true, false, cond}
 use mathlib.Core.List.{List}
 use native.Mathlib.Omega.{arith}
+use mathlib.Core.Option.{some}
 use lib.Dec.{eqb, ltb}
 use lib.ListN.{length, getD}
 use lib.Seq.{sets}
 use borrow.Author.Tests.{lt-ltb, le-ltb}
 use Rattle.list.specs.Kind.{listCode}
-use Rattle.list.specs.Limits.{listLimit}
+use Rattle.list.specs.Limits.{listLimit, depthLimit}
 use Rattle.list.specs.Tree.{Elements}
+use Rattle.list.specs.Bytes.{listBytes}
 use Rattle.list.specs.Rows.{listRows, listStore}
 use Rattle.wire.specs.Area.{over}
 use Rattle.list_encode.specs.declared.Encoded.the-variants.{Written, Refused}
 use Rattle.list_encode.specs.Described.{described}
-use Rattle.list_encode.specs.Encode.{Outcome, outcome, writtenList, answered, encodeOf}
+use Rattle.list_encode.specs.Encode.{depth, Outcome, outcome, writtenList, answered, encodeOf, written, refused, encodingOf}
 use Rattle.list_encode.specs.Shape.{listShape}
 use Rattle.list_encode.specs.Walk.{tooDeep}
 use Rattle.list_encode.specs.Emit.{emit, sizeFrom, capped, storedFrom}
@@ -94,3 +96,15 @@ module _ (rows store buffer : List ℕ) where
             let l : length (emit store rows 0 0) ≤ listLimit = omega arith in
             ap (λ (z : ℕ). outcome (Written z) next) e ∙ ap (outcome (Written (length (emit store rows 0 0)))) o
             ∙ sym (sym (flat-is rows store buffer) ∙ rw (le-ltb (length buffer) listLimit room, shaped, flat, le-ltb listLimit (length (emit store rows 0 0)) l))
+
+-- WHAT IS PROMISED, a refusal and a list
+module _ (rows store buffer : List ℕ) where
+  pub encoding-short : length buffer < listLimit → encodingOf rows store buffer ≡ record { result = refused 20; buffer = buffer }
+  unfolding encodeOf
+  encoding-short h = rw (lt-ltb (length buffer) listLimit h)
+
+  pub encoding-written : (es : Elements) → listLimit ≤ length buffer → described rows store ≡ some es → depth es ≤ depthLimit → length (listBytes es) ≤ listLimit
+      → encodingOf rows store buffer ≡ record { result = written (length (listBytes es)); buffer = over (listBytes es) buffer }
+  unfolding encodeOf writtenList
+  encoding-written es h d deep long =
+      rw (le-ltb (length buffer) listLimit h, d, le-ltb depthLimit (depth es) deep, le-ltb listLimit (length (listBytes es)) long)

@@ -48,3 +48,26 @@ answered limit buffer (some es) = writtenList limit es buffer
 unfoldable pub encodeOf : List ℕ → List ℕ → List ℕ → Outcome
 encodeOf rows store buffer =
     cond (ltb (length buffer) listLimit) (outcome (Refused 20) buffer) (answered listLimit buffer (described rows store))
+
+-- what a writing answers: the bytes written, or the number of the refusal
+pub data Result : Type 0 where
+  written : (count : ℕ) → Result
+  refused : (number : ℕ) → Result
+
+-- the number or the value for each case of the answer
+abbrev pub resultOf : Encoded → Result
+resultOf (Written count) = written count
+resultOf (Refused number) = refused number
+
+-- a result beside the lent buffer
+pub record Writing : Type 0 where
+  pub result : Result
+  pub buffer : List ℕ
+
+-- an outcome with its answer in those words
+abbrev pub writingOf : Outcome → Writing
+writingOf o = record { result = resultOf (o .answer); buffer = o .buffer }
+
+-- what writing a list promises
+abbrev pub encodingOf : List ℕ → List ℕ → List ℕ → Writing
+encodingOf rows store buffer = writingOf (encodeOf rows store buffer)

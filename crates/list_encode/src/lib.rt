@@ -12,7 +12,7 @@ use list::LIST_LIMIT;
 use shape::is_list;
 use size::measure;
 ghost use mathlib.Core.Path.{_≡_};
-ghost use Rattle.list_encode.specs.Encode.{outcome, encodeOf};
+ghost use Rattle.list_encode.specs.Encode.{resultOf, encodingOf};
 
 pub enum Encoded {
     // The number of bytes written.
@@ -23,7 +23,7 @@ pub enum Encoded {
 
 // Writes the list that rows and store describe to the front of the buffer.
 pub fn encode(rows: &[u32], store: &[u8], buffer: &mut [u8]) -> Encoded
-    ensures { λ r. ⌜ outcome r (now (buffer .exit)) ≡ encodeOf (now (rows .entry)) (now (store .entry)) (now (buffer .entry)) ⌝ }
+    ensures { λ r. ⌜ record { result = resultOf r; buffer = now (buffer .exit) } ≡ encodingOf (now (rows .entry)) (now (store .entry)) (now (buffer .entry)) ⌝ }
 {
     if buffer.len() < LIST_LIMIT {
         return Encoded::Refused(20);

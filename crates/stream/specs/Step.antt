@@ -8,7 +8,7 @@ use Rattle.list.specs.Tree.{Elements}
 use Rattle.list.specs.Rows.{listRows}
 use Rattle.list_decode.specs.declared.Decoded.{Decoded}
 use Rattle.list_decode.specs.declared.Decoded.the-variants as decoded
-use Rattle.list_decode.specs.Decode.{Outcome, outcome, roomy, decodeOf}
+use Rattle.list_decode.specs.Decode.{Outcome, outcome, answeredBy, roomy, decodeOf}
 use Rattle.list_decode.specs.Packed.{packed, packedRoomy, decodePackedOf}
 use Rattle.stream.specs.declared.Step.{Step}
 use Rattle.stream.specs.declared.Step.the-variants as step
@@ -43,3 +43,19 @@ stepOf form s offset rows store =
     (cond (eqb offset (length s)) (outcome step.End rows store)
     (stepped offset (form .decode (drop offset s) rows store))))
     (outcome (step.Refused 20 0) rows store)
+
+-- what a step finds: "bytes taken and rows filled", the run's "end", or the number of the refusal and "the place of the item at fault"
+pub data Found : Type 0 where
+  accepted : (consumed rows : ℕ) → Found
+  ended : Found
+  refused : (number offset : ℕ) → Found
+
+-- the number or the values for each case of the answer
+abbrev pub foundOf : Step → Found
+foundOf (step.List consumed rows) = accepted consumed rows
+foundOf step.End = ended
+foundOf (step.Refused error offset) = refused error offset
+
+-- what a step promises
+abbrev pub steppingOf : Form → List ℕ → ℕ → List ℕ → List ℕ → Outcome Found
+steppingOf form s offset rows store = answeredBy foundOf (stepOf form s offset rows store)

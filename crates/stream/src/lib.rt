@@ -2,7 +2,7 @@
 ghost use Prim.Native.Nat.{_+_, _<_};
 ghost use mathlib.Core.Path.{_≡_};
 ghost use Rattle.list_decode.specs.Decode.{outcome};
-ghost use Rattle.stream.specs.Step.{numbers, packedNumbers, counted, stepOf};
+ghost use Rattle.stream.specs.Step.{numbers, packedNumbers, counted, foundOf, steppingOf};
 ghost use Rattle.stream.specs.Judged.{judgedOf, Countable};
 use list::LIST_LIMIT;
 use list::ROW_BYTES;
@@ -24,7 +24,7 @@ enum Judged {
 
 // The list at an offset, its rows and its store bytes. A refused step and the end leave both buffers as they are.
 pub fn next(bytes: &[u8], offset: usize, rows: &mut [u32], store: &mut [u8]) -> Step
-    ensures { λ r. ⌜ outcome r (now (rows .exit)) (now (store .exit)) ≡ stepOf numbers (now (bytes .entry)) offset (now (rows .entry)) (now (store .entry)) ⌝ }
+    ensures { λ r. ⌜ outcome (foundOf r) (now (rows .exit)) (now (store .exit)) ≡ steppingOf numbers (now (bytes .entry)) offset (now (rows .entry)) (now (store .entry)) ⌝ }
 {
     let enough = (ROW_NUMBERS <= rows.len()) & (LIST_LIMIT <= store.len());
     let judged = judge(enough, bytes.len(), offset);
@@ -39,7 +39,7 @@ pub fn next(bytes: &[u8], offset: usize, rows: &mut [u32], store: &mut [u8]) -> 
 
 // The same for callers whose rows are bytes: a row is 12 bytes, low byte first.
 pub fn next_packed(bytes: &[u8], offset: usize, rows: &mut [u8], store: &mut [u8]) -> Step
-    ensures { λ r. ⌜ outcome r (now (rows .exit)) (now (store .exit)) ≡ stepOf packedNumbers (now (bytes .entry)) offset (now (rows .entry)) (now (store .entry)) ⌝ }
+    ensures { λ r. ⌜ outcome (foundOf r) (now (rows .exit)) (now (store .exit)) ≡ steppingOf packedNumbers (now (bytes .entry)) offset (now (rows .entry)) (now (store .entry)) ⌝ }
 {
     let enough = (ROW_BYTES <= rows.len()) & (LIST_LIMIT <= store.len());
     let judged = judge(enough, bytes.len(), offset);

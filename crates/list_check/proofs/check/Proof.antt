@@ -1,8 +1,9 @@
 -- `list_check::check` meets its contract.
-use mathlib.Core.Path.{sym, _∙_}
+use mathlib.Core.Path.{sym, ap, _∙_}
 use borrow.Author.Needs.{needs}
 use Rattle.list.specs.Parse.{parse}
 use Rattle.list.proofs.Items.{fault-fits}
+use Rattle.list_check.specs.Check.{verdictOf}
 use Rattle.list_check.proofs.Checks.{item-stops}
 use Rattle.list_check.proofs.check.Statement.{statement}
 use Rattle.list_check.proofs.check.Tie as tie
@@ -12,7 +13,7 @@ fault-requires c κs = search needs
 
 returns : tie.Need-returns
 unfolding parse
-returns c = rw (← c .before .fault .ensures) (item-stops _ _ _ (c .if1 .taken))
+returns c = rw (← c .before .fault .ensures) (ap verdictOf (item-stops (c .before .fault .result) 0 _ (c .if1 .taken)))
 
 word-at-requires : tie.Need-word-at-requires
 word-at-requires c κs = fault-fits _ _ _ _ (sym (c .before .fault .ensures) ∙ c .if1 .left) .1
@@ -25,7 +26,7 @@ check-list-requires c κs = (search needs, sym (c .before .is-list-code .ensures
 
 returns-2 : tie.Need-returns-2
 unfolding parse
-returns-2 c = c .check-list .ensures .0 ∙ sym (rw (sym (c .before .before .before .before .before .fault .ensures) ∙ c .before .before .before .before .if1 .left, ← c .before .before .before .word-at .ensures, ← c .before .before .is-list-code .ensures, c .before .if2 .taken))
+returns-2 c = ap verdictOf (c .check-list .ensures .0) ∙ sym (rw (sym (c .before .before .before .before .before .fault .ensures) ∙ c .before .before .before .before .if1 .left, ← c .before .before .before .word-at .ensures, ← c .before .before .is-list-code .ensures, c .before .if2 .taken))
 
 returns-3 : tie.Need-returns-3
 unfolding parse

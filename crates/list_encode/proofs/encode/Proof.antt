@@ -1,8 +1,9 @@
 -- `list_encode::encode` meets its contract: each return is a case of the definition.
-use mathlib.Core.Path.{sym, _∙_}
+use mathlib.Core.Path.{sym, ap, _∙_}
 use native.Mathlib.Omega.{arith}
 use borrow.Author.Needs.{needs}
 use Rattle.list.specs.Limits.{listLimit}
+use Rattle.list_encode.specs.Encode.{writingOf}
 use Rattle.list_encode.specs.Emit.{sizeFrom}
 use Rattle.list_encode.proofs.Shapes.{list-row}
 use Rattle.list_encode.proofs.Emits.{capped-low}
@@ -13,7 +14,7 @@ use Rattle.list_encode.proofs.encode.Tie as tie
 returns : tie.Need-returns
 returns c =
     let a = c .before .before .before .before .args in
-    answer-room (a .rows .now) (a .store .now) (a .buffer .now) (c .if1 .taken)
+    ap writingOf (answer-room (a .rows .now) (a .store .now) (a .buffer .now) (c .if1 .taken))
 
 is-list-requires : tie.Need-is-list-requires
 is-list-requires c κs = search needs
@@ -24,9 +25,9 @@ is-too-deep-requires c κs = list-row _ _ (sym (c .before .is-list .ensures) ∙
 returns-2 : tie.Need-returns-2
 returns-2 c =
     let a = c .before .before .before .before .before .before .before .before .args in
-    answer-deep (a .rows .now) (a .store .now) (a .buffer .now)
+    ap writingOf (answer-deep (a .rows .now) (a .store .now) (a .buffer .now)
     (c .before .before .before .before .if1 .left) (sym (c .before .before .before .is-list .ensures) ∙ c .before .before .if2 .taken)
-    (sym (c .before .is-too-deep .ensures) ∙ c .if3 .taken)
+    (sym (c .before .is-too-deep .ensures) ∙ c .if3 .taken))
 
 measure-requires : tie.Need-measure-requires
 measure-requires c κs = search needs
@@ -34,9 +35,9 @@ measure-requires c κs = search needs
 returns-3 : tie.Need-returns-3
 returns-3 c =
     let a = c .before .before .before .before .before .before .before .before .before .before .args in
-    answer-long (a .rows .now) (a .store .now) (a .buffer .now)
+    ap writingOf (answer-long (a .rows .now) (a .store .now) (a .buffer .now)
     (c .before .before .before .before .before .before .if1 .left) (sym (c .before .before .before .before .before .is-list .ensures) ∙ c .before .before .before .before .if2 .taken)
-    (sym (c .before .before .before .is-too-deep .ensures) ∙ c .before .before .if3 .left) _ (c .before .measure .ensures) (c .if4 .taken)
+    (sym (c .before .before .before .is-too-deep .ensures) ∙ c .before .before .if3 .left) _ (c .before .measure .ensures) (c .if4 .taken))
 
 emit-rows-requires : tie.Need-emit-rows-requires
 emit-rows-requires c κs =
@@ -56,17 +57,17 @@ same-length c = search needs
 returns-4 : tie.Need-returns-4
 returns-4 c =
     let a = c .before .before .before .before .before .before .before .before .before .before .before .before .before .before .args in
-    answer-written (a .rows .now) (a .store .now) (a .buffer .now)
+    ap writingOf (answer-written (a .rows .now) (a .store .now) (a .buffer .now)
     (c .before .before .before .before .before .before .before .before .before .before .if1 .left)
     (sym (c .before .before .before .before .before .before .before .before .before .is-list .ensures) ∙ c .before .before .before .before .before .before .before .before .if2 .taken)
     (sym (c .before .before .before .before .before .before .before .is-too-deep .ensures) ∙ c .before .before .before .before .before .before .if3 .left)
-    _ (c .before .before .before .before .before .measure .ensures) _ (c .before .before .before .before .if4 .left) (c .before .before .emit-rows .ensures)
+    _ (c .before .before .before .before .before .measure .ensures) _ (c .before .before .before .before .if4 .left) (c .before .before .emit-rows .ensures))
 
 returns-5 : tie.Need-returns-5
 returns-5 c =
     let a = c .before .before .before .before .before .before .args in
-    answer-none (a .rows .now) (a .store .now) (a .buffer .now)
-    (c .before .before .if1 .left) (sym (c .before .is-list .ensures) ∙ c .if2 .left)
+    ap writingOf (answer-none (a .rows .now) (a .store .now) (a .buffer .now)
+    (c .before .before .if1 .left) (sym (c .before .is-list .ensures) ∙ c .if2 .left))
 
 pub encode-spec : {M : Type 1} → statement M
 encode-spec =

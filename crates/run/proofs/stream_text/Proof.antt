@@ -8,6 +8,7 @@ use lib.ListN.{length, take}
 use lib.Seq.{length-take-le}
 use borrow.Author.Needs.{needs}
 use Rattle.list.specs.Limits.{rowRoom, storeRoom}
+use Rattle.stream.proofs.Steps.{step-told}
 use Rattle.run.specs.Limits.{inputLimit, lineRoom, textRoom}
 use Rattle.run.specs.Text.{textFrom, textOf}
 use Rattle.run.proofs.Answers.{ListAt, answered, list-found, text-list, text-end, text-stop}
@@ -43,7 +44,7 @@ here c =
     let l = c .before .before .before .before .before .before .before .before .before .before .before .before .before .before .loop in
     list-found _ (l .offset) _ _ _ _ _ _ _ (l .inv .1) (l .inv .2) (l .inv .4)
     (c .before .before .before .before .before .before .before .before .before .before .before .before .before .before .before .before .before .before .shared-slice-known .given)
-    (c .before .before .before .before .before .before .before .before .before .before .before .next .ensures)
+    (step-told (c .before .before .before .before .before .before .before .before .before .before .before .next .result) _ _ _ (c .before .before .before .before .before .before .before .before .before .before .before .next .ensures))
     (c .before .before .before .before .before .step .given .1)
 
 loop-holds : tie.Need-loop-holds Inv-loop μ-loop
@@ -109,7 +110,7 @@ returns c =
     let a = c .before .before .before .before .before .before .before .before .before .before .before .before .before .before .before .before .before .before .args in
     let l = c .before .before .before .before .before .before .before .before .before .before .before .before .before .loop in
     let here = answered (a .bytes .now) (l .offset) _ _ _ _ _ _ (l .inv .1) (l .inv .2) (l .inv .4)
-    (c .before .before .before .before .before .before .before .before .before .before .next .ensures)
+    (step-told (c .before .before .before .before .before .before .before .before .before .before .next .result) _ _ _ (c .before .before .before .before .before .before .before .before .before .before .next .ensures))
     (c .before .before .before .before .enum-told .given .1) in (
       text-end (a .bytes .now) (l .offset) (l .k) (l .used) (l .text) _ (textOf (a .bytes .now)) _ (omega arith) (l .inv .8)
           here (c .before .before .end-line .ensures .0),
@@ -136,7 +137,7 @@ returns-2 c =
     let a = c .before .before .before .before .before .before .before .before .before .before .before .before .before .before .before .before .before .before .before .args in
     let l = c .before .before .before .before .before .before .before .before .before .before .before .before .before .before .loop in
     let here = answered (a .bytes .now) (l .offset) _ _ _ _ _ _ (l .inv .1) (l .inv .2) (l .inv .4)
-    (c .before .before .before .before .before .before .before .before .before .before .before .next .ensures)
+    (step-told (c .before .before .before .before .before .before .before .before .before .before .before .next .result) _ _ _ (c .before .before .before .before .before .before .before .before .before .before .before .next .ensures))
     (c .before .before .before .before .before .step2 .given .1) in (
       text-stop (a .bytes .now) (l .offset) (l .k) (l .used) (l .text) _ (textOf (a .bytes .now)) _ (omega arith) (l .inv .8)
           _ _ here (c .before .before .stop-line .ensures .0),

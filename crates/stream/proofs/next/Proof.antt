@@ -1,11 +1,12 @@
 -- `stream::next` meets its contract: an answer before the list is the step's, and else list reading's outcome with its offset counted
 -- from the front of the stream.
-use mathlib.Core.Path.{sym, _∙_}
+use mathlib.Core.Path.{sym, ap, _∙_}
 use native.Mathlib.Omega.{arith}
 use lib.ListN.{length}
 use borrow.Author.Needs.{needs}
-use Rattle.list_decode.specs.Decode.{roomy}
-use Rattle.stream.specs.Step.{numbers}
+use Rattle.list_decode.specs.Decode.{roomy, answeredBy}
+use Rattle.list_decode.proofs.Answers.{reading-told}
+use Rattle.stream.specs.Step.{numbers, foundOf}
 use Rattle.stream.proofs.Reading.{numbers-read}
 use Rattle.stream.proofs.Judging.{inside, countable, step-answer, step-counted}
 use Rattle.stream.proofs.next.Statement.{statement}
@@ -45,14 +46,14 @@ count-requires c κs =
     countable numbers numbers-read (a .bytes .now) (a .offset) _ (a .rows .now) (a .store .now) _ _
     (sym (c .before .before .before .before .before .before .before .before .before .before .judge .ensures)
     ∙ c .before .before .before .before .before .before .before .before .enum-told .given .1)
-    (omega arith) (c .before .before .before .before .decode .ensures)
+    (omega arith) (reading-told (c .before .before .before .before .decode .result) _ _ _ (c .before .before .before .before .decode .ensures))
 
 returns : tie.Need-returns
 unfolding roomy
 returns c =
     let a = c .before .before .before .before .before .before .before .args in
-    step-answer numbers (a .bytes .now) (a .offset) (a .rows .now) (a .store .now) _
-    (sym (c .before .before .before .judge .ensures) ∙ c .before .judged .given .1)
+    ap (answeredBy foundOf) (step-answer numbers (a .bytes .now) (a .offset) (a .rows .now) (a .store .now) _
+    (sym (c .before .before .before .judge .ensures) ∙ c .before .judged .given .1))
 
 same-length : tie.Need-same-length
 same-length c = search needs
@@ -64,10 +65,10 @@ returns-2 : tie.Need-returns-2
 unfolding roomy
 returns-2 c =
     let a = c .before .before .before .before .before .before .before .before .before .before .before .before .before .before .before .args in
-    step-counted numbers (a .bytes .now) (a .offset) (a .rows .now) (a .store .now) _ _ _ _
+    ap (answeredBy foundOf) (step-counted numbers (a .bytes .now) (a .offset) (a .rows .now) (a .store .now) _ _ _ _
     (sym (c .before .before .before .before .before .before .before .before .before .before .before .judge .ensures)
     ∙ c .before .before .before .before .before .before .before .before .before .enum-told .given .1)
-    (c .before .before .before .before .before .decode .ensures) (c .count .ensures)
+    (reading-told (c .before .before .before .before .before .decode .result) _ _ _ (c .before .before .before .before .before .decode .ensures)) (c .count .ensures))
 
 pub next-spec : {M : Type 1} → statement M
 next-spec =

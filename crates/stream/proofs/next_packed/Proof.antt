@@ -1,11 +1,13 @@
 -- `stream::next_packed` meets its contract: an answer before the list is the step's, and else list reading's outcome with its offset counted
 -- from the front of the stream.
-use mathlib.Core.Path.{sym, _∙_}
+use mathlib.Core.Path.{sym, ap, _∙_}
 use native.Mathlib.Omega.{arith}
 use lib.ListN.{length}
 use borrow.Author.Needs.{needs}
+use Rattle.list_decode.specs.Decode.{answeredBy}
 use Rattle.list_decode.specs.Packed.{packedRoomy}
-use Rattle.stream.specs.Step.{packedNumbers}
+use Rattle.list_decode.proofs.Answers.{reading-told}
+use Rattle.stream.specs.Step.{packedNumbers, foundOf}
 use Rattle.stream.proofs.Reading.{packed-read}
 use Rattle.stream.proofs.Judging.{inside, countable, step-answer, step-counted}
 use Rattle.stream.proofs.next_packed.Statement.{statement}
@@ -45,14 +47,14 @@ count-requires c κs =
     countable packedNumbers packed-read (a .bytes .now) (a .offset) _ (a .rows .now) (a .store .now) _ _
     (sym (c .before .before .before .before .before .before .before .before .before .before .judge .ensures)
     ∙ c .before .before .before .before .before .before .before .before .enum-told .given .1)
-    (omega arith) (c .before .before .before .before .decode-packed .ensures)
+    (omega arith) (reading-told (c .before .before .before .before .decode-packed .result) _ _ _ (c .before .before .before .before .decode-packed .ensures))
 
 returns : tie.Need-returns
 unfolding packedRoomy
 returns c =
     let a = c .before .before .before .before .before .before .before .args in
-    step-answer packedNumbers (a .bytes .now) (a .offset) (a .rows .now) (a .store .now) _
-    (sym (c .before .before .before .judge .ensures) ∙ c .before .judged .given .1)
+    ap (answeredBy foundOf) (step-answer packedNumbers (a .bytes .now) (a .offset) (a .rows .now) (a .store .now) _
+    (sym (c .before .before .before .judge .ensures) ∙ c .before .judged .given .1))
 
 same-length : tie.Need-same-length
 same-length c = search needs
@@ -64,10 +66,10 @@ returns-2 : tie.Need-returns-2
 unfolding packedRoomy
 returns-2 c =
     let a = c .before .before .before .before .before .before .before .before .before .before .before .before .before .before .before .args in
-    step-counted packedNumbers (a .bytes .now) (a .offset) (a .rows .now) (a .store .now) _ _ _ _
+    ap (answeredBy foundOf) (step-counted packedNumbers (a .bytes .now) (a .offset) (a .rows .now) (a .store .now) _ _ _ _
     (sym (c .before .before .before .before .before .before .before .before .before .before .before .judge .ensures)
     ∙ c .before .before .before .before .before .before .before .before .before .enum-told .given .1)
-    (c .before .before .before .before .before .decode-packed .ensures) (c .count .ensures)
+    (reading-told (c .before .before .before .before .before .decode-packed .result) _ _ _ (c .before .before .before .before .before .decode-packed .ensures)) (c .count .ensures))
 
 pub next-packed-spec : {M : Type 1} → statement M
 next-packed-spec =

@@ -1,5 +1,6 @@
 -- `cinder_stream_next` is `streamCall`, by the cases of the step's answer.
 use borrow.Author.Needs.{needs}
+use Rattle.stream.proofs.Steps.{step-told}
 use Rattle.display.proofs.StreamAnswers.{step-answered}
 use Rattle.display.proofs.stream_call.cinder_stream_next.Statement.{statement}
 use Rattle.display.proofs.stream_call.cinder_stream_next.Tie as tie
@@ -29,7 +30,7 @@ same-length-2 : tie.Need-same-length-2
 same-length-2 c = search needs
 
 returns : tie.Need-returns
-returns c = step-answered _ _ _ _ _ _ _ _ (c .before .step .given .1) (c .before .before .before .before .before .before .before .next-packed .ensures)
+returns c = step-answered _ _ _ _ _ _ _ _ (c .before .step .given .1) (step-told (c .before .before .before .before .before .before .before .next-packed .result) _ _ _ (c .before .before .before .before .before .before .before .next-packed .ensures))
 
 same-length-3 : tie.Need-same-length-3
 same-length-3 c = search needs
@@ -38,7 +39,7 @@ same-length-4 : tie.Need-same-length-4
 same-length-4 c = search needs
 
 returns-2 : tie.Need-returns-2
-returns-2 c = step-answered _ _ _ _ _ _ _ _ (c .enum-told .given .1) (c .before .before .before .before .before .before .next-packed .ensures)
+returns-2 c = step-answered _ _ _ _ _ _ _ _ (c .enum-told .given .1) (step-told (c .before .before .before .before .before .before .next-packed .result) _ _ _ (c .before .before .before .before .before .before .next-packed .ensures))
 
 same-length-5 : tie.Need-same-length-5
 same-length-5 c = search needs
@@ -47,7 +48,7 @@ same-length-6 : tie.Need-same-length-6
 same-length-6 c = search needs
 
 returns-3 : tie.Need-returns-3
-returns-3 c = step-answered _ _ _ _ _ _ _ _ (c .before .step2 .given .1) (c .before .before .before .before .before .before .before .next-packed .ensures)
+returns-3 c = step-answered _ _ _ _ _ _ _ _ (c .before .step2 .given .1) (step-told (c .before .before .before .before .before .before .before .next-packed .result) _ _ _ (c .before .before .before .before .before .before .before .next-packed .ensures))
 
 pub cinder-stream-next-spec : {M : Type 1} → statement M
 cinder-stream-next-spec =
