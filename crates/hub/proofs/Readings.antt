@@ -8,7 +8,7 @@ use borrow.Author.Tests.{lt-ltb}
 use Rattle.packet.specs.TypeTable.{ACK, DEVICE_DATA}
 use Rattle.packet.specs.Packet.{StartsWith}
 use Rattle.catalogue.specs.Lookup.{deviceOf, parameterOf}
-use Rattle.value.specs.Meaning.{valueOf}
+use Rattle.value.specs.Meaning.{meant}
 use Rattle.table.specs.Slots.{slotCount, socketCount, paramCount, Shaped, slotAt, withSlot, slotOf}
 use Rattle.table.specs.Lawful.{lawful, admitted}
 use Rattle.table.specs.declared.Slot.{Slot}
@@ -68,7 +68,7 @@ module _ (c : List ℕ) (t : Table) (socket : ℕ) (s : List ℕ) (a : admitted 
       pub named-read :
           p < paramCount → named (mapOf payload) p ≡ true →
           readOf c (receivedOf c t socket s .table) socket p ≡
-          held (valueOf (parameterOf c (slotAt t i .device) p .kind) (valueIn c (slotAt t i .device) (mapOf payload) payload p))
+          held (meant (parameterOf c (slotAt t i .device) p .kind) (valueIn c (slotAt t i .device) (mapOf payload) payload p))
       named-read l n =
           data-read ∙ (named-reads c payload (slotAt t i) (z .slots-shaped i (slot-found t socket i e .1)) p l n)
 

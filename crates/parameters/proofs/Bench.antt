@@ -9,7 +9,7 @@ use Rattle.wire.specs.Every.{every}
 use Rattle.catalogue.specs.Format.{parametersBefore}
 use Rattle.catalogue.specs.Lookup.{deviceFrom, parameterIn}
 use Rattle.catalogue.proofs.Bench.{catalogueC}
-use Rattle.value.specs.declared.Value.the-variants.{Int, Bool}
+use Rattle.value.specs.Meaning.{whole, flag}
 use Rattle.table.specs.Slots.{freshSlot}
 use Rattle.table.specs.declared.Slot.{Slot}
 use Rattle.table.specs.declared.Answer.the-variants.{Accepted, Refused}
@@ -26,9 +26,9 @@ payloadC = 5 ∷ 0 ∷ 0 ∷ 0 ∷ 7 ∷ 0 ∷ 0 ∷ 0 ∷ 1 ∷ []
 pub record BenchData : Type 0 where
   pub is-accepted : judged catalogueC 7 payloadC ≡ Accepted
   pub words-after : stored catalogueC payloadC rowC .bits ≡ set (set (replicate 32 0) 0 7) 2 1
-  pub int-7 : contentOf catalogueC (stored catalogueC payloadC rowC) 0 ≡ held (Int (pos 7))
+  pub int-7 : contentOf catalogueC (stored catalogueC payloadC rowC) 0 ≡ held (whole (pos 7))
   pub float-absent : contentOf catalogueC (stored catalogueC payloadC rowC) 1 ≡ absent
-  pub bool-true : contentOf catalogueC (stored catalogueC payloadC rowC) 2 ≡ held (Bool true)
+  pub bool-true : contentOf catalogueC (stored catalogueC payloadC rowC) 2 ≡ held (flag true)
   pub not-readable : judged catalogueC 7 (2 ∷ 0 ∷ 0 ∷ 0 ∷ 0 ∷ 0 ∷ 0 ∷ 0 ∷ []) ≡ Refused 16
   pub too-long : judged catalogueC 7 (0 ∷ 0 ∷ 0 ∷ 0 ∷ 0 ∷ []) ≡ Refused 17
   pub no-flag : judged catalogueC 7 (4 ∷ 0 ∷ 0 ∷ 0 ∷ 2 ∷ []) ≡ Refused 18

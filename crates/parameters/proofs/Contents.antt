@@ -7,7 +7,7 @@ use lib.Dec.{ltb}
 use lib.ListN.{getD-replicate}
 use borrow.Author.Tests.{lt-ltb, ltb-true}
 use Rattle.catalogue.specs.Lookup.{parameterOf}
-use Rattle.value.specs.Meaning.{valueOf}
+use Rattle.value.specs.Meaning.{meant}
 use Rattle.table.specs.Slots.{paramCount, ShapedSlot, freshSlot, slotAt, slotOf}
 use Rattle.table.specs.Lawful.{presentAt, bitsAt, admitted}
 use Rattle.table.specs.declared.Slot.{Slot}
@@ -36,7 +36,7 @@ module _ (c : List ℕ) (payload : List ℕ) (s : Slot) (h : ShapedSlot s) (p : 
   pub named-reads :
       p < paramCount → named (mapOf payload) p ≡ true →
       contentOf c (stored c payload s) p ≡
-      held (valueOf (parameterOf c (s .device) p .kind) (valueIn c (s .device) (mapOf payload) payload p))
+      held (meant (parameterOf c (s .device) p .kind) (valueIn c (s .device) (mapOf payload) payload p))
   unfolding contentOf
   named-reads l n =
       rw (lt-ltb p paramCount l, present-as true l n, bits-as true l n, data-same-device c payload s .device-same)
@@ -48,8 +48,8 @@ module _ (c : List ℕ) (payload : List ℕ) (s : Slot) (h : ShapedSlot s) (p : 
     where
       go :
           (b : Bool) → ltb p paramCount ≡ b →
-          cond (b && presentAt after p) (held (valueOf (parameterOf c (after .device) p .kind) (bitsAt after p))) absent ≡
-          cond (b && presentAt s p) (held (valueOf (parameterOf c (s .device) p .kind) (bitsAt s p))) absent
+          cond (b && presentAt after p) (held (meant (parameterOf c (after .device) p .kind) (bitsAt after p))) absent ≡
+          cond (b && presentAt s p) (held (meant (parameterOf c (s .device) p .kind) (bitsAt s p))) absent
       go false e = refl
       go true e =
           let l = ltb-true p paramCount e in
@@ -63,7 +63,7 @@ fresh-reads c taken socket device year uid p = go (ltb p paramCount) refl
   where
     go :
         (b : Bool) → ltb p paramCount ≡ b →
-        cond (b && presentAt (freshSlot taken socket device year uid) p) (held (valueOf (parameterOf c device p .kind) (bitsAt (freshSlot taken socket device year uid) p))) absent ≡ absent
+        cond (b && presentAt (freshSlot taken socket device year uid) p) (held (meant (parameterOf c device p .kind) (bitsAt (freshSlot taken socket device year uid) p))) absent ≡ absent
     go false e = refl
     go true e = rw (getD-replicate paramCount p false false (ltb-true p paramCount e))
 

@@ -4,8 +4,7 @@ use mathlib.Core.Bool.{_&&_, cond}
 use mathlib.Core.List.{List}
 use lib.Dec.{ltb}
 use Rattle.catalogue.specs.Lookup.{parameterOf}
-use Rattle.value.specs.Meaning.{valueOf}
-use Rattle.value.specs.declared.Value.{Value}
+use Rattle.value.specs.Meaning.{Meaning, meaningOf, meant}
 use Rattle.table.specs.Slots.{paramCount, slotAt, slotOf}
 use Rattle.table.specs.Lawful.{presentAt, bitsAt, admitted}
 use Rattle.table.specs.declared.Slot.{Slot}
@@ -21,13 +20,13 @@ use Rattle.parameters.specs.declared.Reading.the-variants.{Found, Refuse
 
 -- what reading one parameter finds: a value, none, or the number of the refusal
 pub data Finding : Type 0 where
-  held : (v : Value) → Finding
+  held : (v : Meaning) → Finding
   absent : Finding
   refused : (number : ℕ) → Finding
 
 -- the value, or none, for each case of a content
 abbrev pub heldOf : Content → Finding
-heldOf (Held v) = held v
+heldOf (Held v) = held (meaningOf v)
 heldOf Absent = absent
 
 -- the number or the value for each case of the answer
@@ -38,7 +37,7 @@ findingOf (Refused number) = refused number
 -- the held value by its parameter's kind; absent where none is held or there is no such parameter
 unfoldable pub contentOf : List ℕ → Slot → ℕ → Finding
 contentOf c s index =
-    cond (ltb index paramCount && presentAt s index) (held (valueOf (parameterOf c (s .device) index .kind) (bitsAt s index))) absent
+    cond (ltb index paramCount && presentAt s index) (held (meant (parameterOf c (s .device) index .kind) (bitsAt s index))) absent
 
 -- 15, "socket has no guest"
 abbrev pub contentAt : List ℕ → Table → ℕ → Place → Finding

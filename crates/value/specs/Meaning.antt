@@ -1,8 +1,10 @@
 -- "A held value is one of a whole number, a single float or a flag", and a single float as the double that is published.
 use Prim.Native.Nat.{ℕ, _+_, _*_, _/_, _%_}
+use mathlib.Core.Bool as bool
 use mathlib.Core.Bool.{cond}
 use lib.Dec.{ltb, leb, eqb}
 use lib.IntN.{ℤ}
+use lib.Ieee as ieee
 use lib.Ieee.{binary32, binary64, ofBits, toBits}
 use mir.Syntax.{w32}
 use mir.Val.{toZ}
@@ -36,6 +38,24 @@ abbrev pub valueOf : ℕ → ℕ → Value
 valueOf kind bits =
     cond (eqb kind kindInt) (Int (intOf bits))
     (cond (eqb kind kindFloat) (cond (leb (lowOf bits) infinity) (Float (ofBits binary32 bits)) (Nan bits)) (Bool (eqb bits 1)))
+
+-- what a value says: "one of a whole number, a single float or a flag", and a NaN by its bits
+pub data Meaning : Type 0 where
+  whole : (number : ℤ) → Meaning
+  single : (number : ieee.Float) → Meaning
+  nan : (bits : ℕ) → Meaning
+  flag : (set : bool.Bool) → Meaning
+
+-- the value for each case
+abbrev pub meaningOf : Value → Meaning
+meaningOf (Int number) = whole number
+meaningOf (Float number) = single number
+meaningOf (Nan bits) = nan bits
+meaningOf (Bool set) = flag set
+
+-- what 32 bits say for a parameter of this kind
+abbrev pub meant : ℕ → ℕ → Meaning
+meant kind bits = meaningOf (valueOf kind bits)
 
 -- "FLOAT becomes the double of exactly the same value, and infinities and NaNs keep the sign, their fraction moved 29 bits up"
 abbrev pub widened : ℕ → ℕ

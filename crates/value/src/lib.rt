@@ -1,6 +1,6 @@
 // A held value: what its 32 bits mean by the parameter's kind, and a single float as a double.
 ghost use mathlib.Core.Path.{_≡_};
-ghost use Rattle.value.specs.Meaning.{intOf, valueOf, widened};
+ghost use Rattle.value.specs.Meaning.{intOf, meaningOf, meant, widened};
 
 // The lowest pattern without the sign that is an infinity or a NaN.
 const INFINITY: u32 = 0x7f80_0000;
@@ -26,7 +26,7 @@ pub fn int_of(bits: u32) -> i32
 
 // The value that 32 bits hold for a parameter of this kind.
 pub fn value_of(kind: u8, bits: u32) -> Value
-    ensures { λ r. ⌜ r ≡ valueOf kind bits ⌝ }
+    ensures { λ r. ⌜ meaningOf r ≡ meant kind bits ⌝ }
 {
     if kind == catalogue::INT {
         return Value::Int(int_of(bits));

@@ -4,6 +4,8 @@ use mathlib.Core.Path.{ap}
 use mathlib.Core.Logic.{⊎-elim}
 use native.Mathlib.Omega.{arith}
 use borrow.Author.Needs.{needs}
+use Rattle.value.specs.Meaning.{valueOf}
+use Rattle.value.proofs.Values.{value-same}
 use Rattle.table.specs.Slots.{paramCount}
 use Rattle.table.specs.Lawful.{bitsAt}
 use Rattle.publish.specs.Published.{elementOf, parametersFrom}
@@ -56,7 +58,7 @@ put-parameter-requires c κs =
     let a = start .args in
     let l = c .before .before .before .before .before .before .before .loop in
     let q = c .before .before .before .describe in
-    let e = c .before .value-of .ensures in
+    let e = value-same (c .before .value-of .result) (valueOf (q .result .kind) (bitsAt (a .t2) (l .p))) (c .before .value-of .ensures) in
     let b = bytes-of (a .c .now) (a .t2 .device) (c .before .before .before .before .before .before .before .before .before .find-device .ensures) (c .before .before .before .before .before .before .before .before .parameter-bytes .ensures) in
     let v = held-is (a .c .now) (a .t2) (l .p) b (omega arith) (q .ensures) e in (
       rw e (no-nan (q .result .kind) (bitsAt (a .t2) (l .p))),
@@ -85,7 +87,7 @@ loop-again c =
       omega arith,
       omega (arith, w .10, l .inv .1),
       left-at (w .8) (w .9) (w .10) (left-put (left-as (held (w .0 .taken)) (l .inv .2))
-          (put-value (l .p) _ _ (ap elementOf (held-is (a .c .now) (a .t2) (l .p) b low (w .1 .ensures) (w .3 .ensures))) (w .5 .ensures))),
+          (put-value (l .p) _ _ (ap elementOf (held-is (a .c .now) (a .t2) (l .p) b low (w .1 .ensures) (value-same (w .3 .result) (valueOf (w .1 .result .kind) (bitsAt (a .t2) (l .p))) (w .3 .ensures)))) (w .5 .ensures))),
     ))
     (λ w. (omega arith, omega (arith, w .3, l .inv .1), left-at (w .1) (w .2) (w .3) (left-as (absent (w .0 .left)) (l .inv .2))))
     (c .if1 .came)
