@@ -4,7 +4,7 @@ use mathlib.Core.Path.{_≡_, ap, sym, _∙_}
 use mathlib.Core.List.{List, _++_, append-assoc}
 use native.Mathlib.Omega.{arith}
 use lib.ListN.{length, take, drop}
-use lib.Seq.{sets, sets-eq}
+use lib.Seq.{take-all, sets, sets-eq}
 use borrow.Rule.Slice.PartMut.{putMid, postOf, post-is}
 use borrow.Author.Tests.{le-leb, lt-leb}
 use Rattle.wire.specs.Area.{putAt}
@@ -24,3 +24,7 @@ pub put-part :
 put-part {A} area at xs h =
     let tail : postOf at (at + length xs - at) area ≡ drop (at + length xs) area = post-is at (at + length xs) area (omega arith) in
     ap (λ (l : List A). take at area ++ (xs ++ l)) tail ∙ sym (put-fits area at xs h ∙ (sets-eq xs area at h ∙ append-assoc (take at area) xs (drop (at + length xs) area)))
+
+-- a buffer whose first i elements are those of the source, which has no more of them
+pub copied-all : {A : Type 0} (dst src : List A) (i : ℕ) → length src ≤ i → length dst ≡ length src → take i dst ≡ take i src → dst ≡ src
+copied-all dst src i h l e = sym (take-all i dst (omega arith)) ∙ e ∙ take-all i src h

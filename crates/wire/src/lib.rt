@@ -1,5 +1,6 @@
 // One byte, bytes that are copied, and the search for a zero. Every function answers for every input.
 ghost use mathlib.Core.Path.{_≡_};
+ghost use Prim.Native.Nat.{_≤_, _<_};
 ghost use lib.ListN.{length, getD};
 ghost use Rattle.wire.specs.Area.{putAt};
 ghost use Rattle.wire.specs.Zero.{hasZero};
@@ -43,16 +44,48 @@ pub fn copy_at(dst: &mut [u8], at: usize, src: &[u8])
 // The longest source that is copied in one move.
 const BLOCK: usize = 4096;
 
-// Copies `src` over a buffer of its length, by way of an array. Nothing overlaps an array of the function's own, so that
-// the compiler makes one move of memory of the two loops, and no array.
+// Copies `src` over a buffer of its length.
 fn copy(dst: &mut [u8], src: &[u8])
     requires { ⌜ length (now dst) ≡ length (now src) ⌝ }
     ensures { λ _. ⌜ now (dst .exit) ≡ now (src .entry) ⌝ }
 {
     if BLOCK < src.len() {
-        copy_bytes(dst, src);
+        copy_long(dst, src);
         return;
     }
+    copy_block(dst, src);
+}
+
+// The same in blocks, for a source that is longer than one.
+fn copy_long(dst: &mut [u8], src: &[u8])
+    requires { ⌜ length (now dst) ≡ length (now src) ⌝ }
+    ensures { λ _. ⌜ now (dst .exit) ≡ now (src .entry) ⌝ }
+{
+    let mut at: usize = 0;
+    while at < src.len() {
+        let n = block_size(src.len() - at);
+        copy_block(&mut dst[at..at + n], &src[at..at + n]);
+        at += n;
+    }
+}
+
+// The bytes of the next block, where some are left.
+fn block_size(left: usize) -> usize
+    requires { ⌜ 0 < left ⌝ }
+    ensures { λ r. ⌜ (0 < r) × (r ≤ left) × (r ≤ 4096) ⌝ }
+{
+    if BLOCK < left {
+        return BLOCK;
+    }
+    left
+}
+
+// The same for a source of at most one block, by way of an array: nothing overlaps an array of the function's own, so that
+// the compiler makes one move of memory of the two loops, and no array.
+fn copy_block(dst: &mut [u8], src: &[u8])
+    requires { ⌜ (length (now dst) ≡ length (now src)) × (length (now src) ≤ 4096) ⌝ }
+    ensures { λ _. ⌜ now (dst .exit) ≡ now (src .entry) ⌝ }
+{
     let mut block = [0u8; BLOCK];
     copy_bytes(&mut block[0..src.len()], src);
     copy_bytes(dst, &block[0..src.len()]);

@@ -1,20 +1,18 @@
 -- `wire::copy_bytes` meets its contract. The loop's invariant: the first i bytes of the buffer are those of the source.
 use Prim.Native.Nat.{ℕ, _+_, _-_, _≤_, _<_}
-use mathlib.Core.Path.{_≡_, refl, sym, _∙_}
+use mathlib.Core.Path.{_≡_, refl, _∙_}
 use mathlib.Core.List.{List}
 use native.Mathlib.Numerals.{add-one}
 use native.Mathlib.Omega.{arith}
 use lib.ListN.{length, take, set, getD, length-set}
-use lib.Seq.{take-suc, take-suc-set, take-all}
+use lib.Seq.{take-suc, take-suc-set}
 use borrow.Author.Needs.{needs}
+use Rattle.wire.proofs.Buffers.{copied-all}
 use Rattle.wire.proofs.copy_bytes.Statement.{statement}
 use Rattle.wire.proofs.copy_bytes.Tie as tie
 
 step : (dst src : List ℕ) (i : ℕ) → i < length src → length dst ≡ length src → take i dst ≡ take i src → take (i + 1) (set dst i (getD src i 0)) ≡ take (i + 1) src
 step dst src i h l e = rw (add-one i, take-suc-set dst i (getD src i 0) (omega arith), take-suc src i 0 h, e)
-
-done : (dst src : List ℕ) (i : ℕ) → length src ≤ i → length dst ≡ length src → take i dst ≡ take i src → dst ≡ src
-done dst src i h l e = sym (take-all i dst (omega arith)) ∙ e ∙ take-all i src h
 
 abbrev Inv-loop : tie.InvT-loop
 Inv-loop dst₀ src i₀ dst i = (i ≤ length src) × (length dst ≡ length dst₀) × (take i dst ≡ take i src)
@@ -51,7 +49,7 @@ same-length c = c .before .loop .inv .1
 returns : tie.Need-returns Inv-loop μ-loop
 returns c =
     let l = c .before in
-    done _ _ (l .loop .i) (c .loop-test .left) (l .loop .inv .1 ∙ l .before .pre) (l .loop .inv .2)
+    copied-all _ _ (l .loop .i) (c .loop-test .left) (l .loop .inv .1 ∙ l .before .pre) (l .loop .inv .2)
 
 pub copy-bytes-spec : {M : Type 1} → statement M
 copy-bytes-spec =
