@@ -5,7 +5,7 @@ use mathlib.Core.Bool.{Bool, true, false, not, cond, _&&_}
 use mathlib.Core.List.{List, [], _∷_}
 use native.Mathlib.Omega.{arith}
 use native.Mathlib.Numerals.{sub-one}
-use lib.Dec.{eqb}
+use lib.Dec.{eqb, eqb·zero-suc, eqb·suc-suc}
 use lib.ListN.{length, getD, take}
 use borrow.Author.Tests.{ne-eqb, eq-eqb}
 use Rattle.wire.specs.Zero.{hasZero}
@@ -22,7 +22,7 @@ use Rattle.list_check.specs.declared.Checked.{Checked}
 use Rattle.list_check.specs.declared.Checked.the-variants.{Ok, Bad}
 use Rattle.list_check.specs.declared.Head.{Head}
 use Rattle.list_check.specs.Check.{checked, verdictOf, checkingOf}
-use Rattle.list_check.specs.Steps.{unless, countAt, headFrom, otherHead, codedHead, headAt, closeOf, Within, WithinHead, Counted}
+use Rattle.list_check.specs.Steps.{unless, firstZero, countAt, headFrom, otherHead, codedHead, headAt, closeOf, Within, WithinHead, Counted}
 use Rattle.list_check.specs.declared.Head.the-variants as head
 use Rattle.list_check.proofs.Codes.{list-high, list-mixed, kind-not-list}
 use Rattle.list_check.proofs.KindRead.{value-kind, typed-kind}
@@ -115,10 +115,36 @@ and-false-r : (b : Bool) → (b && false) ≡ false
 and-false-r true = refl
 and-false-r false = refl
 
+-- THE FIRST ZERO stands behind a byte that is none, if it was not before
+pub zero-passed : (s : List ℕ) (i : ℕ) → i ≤ firstZero s → (getD s i 0 ≡ 0 → ⊥) → i < firstZero s
+unfolding firstZero
+zero-passed [] i h e = absurd (e refl)
+zero-passed (zero ∷ s) zero h e = absurd (e refl)
+zero-passed (zero ∷ s) (suc i) h e = absurd (omega arith)
+zero-passed (suc b ∷ s) zero h e = omega arith
+zero-passed (suc b ∷ s) (suc i) h e = let l = zero-passed s i (omega arith) e in omega arith
+
+-- not behind another zero
+pub zero-late : (s : List ℕ) (i : ℕ) → getD s i 0 ≡ 0 → firstZero s ≤ i
+unfolding firstZero
+zero-late [] i e = omega arith
+zero-late (zero ∷ s) i e = omega arith
+zero-late (suc b ∷ s) zero e = absurd (omega arith)
+zero-late (suc b ∷ s) (suc i) e = let h = zero-late s i e in omega arith
+
+-- and at a zero's offset exactly where no zero stands before that
+zeros-before : (s : List ℕ) (i : ℕ) → i < length s → getD s i 0 ≡ 0 → not (hasZero (take i s)) ≡ eqb (firstZero s) i
+unfolding firstZero hasZero
+zeros-before [] i h e = absurd (omega arith)
+zeros-before (zero ∷ s) zero h e = refl
+zeros-before (zero ∷ s) (suc i) h e = sym (eqb·zero-suc i)
+zeros-before (suc b ∷ s) zero h e = absurd (omega arith)
+zeros-before (suc b ∷ s) (suc i) h e = zeros-before s i (omega arith) e ∙ sym (eqb·suc-suc (firstZero s) i)
+
 -- a string's bytes: the last one is looked at first
-pub closed-last : (run : List ℕ) → 0 < length run → getD run (length run - 1) 0 ≡ 0 → not (hasZero (take (length run - 1) run)) ≡ closed run
+pub closed-last : (run : List ℕ) → 0 < length run → getD run (length run - 1) 0 ≡ 0 → eqb (firstZero run) (length run - 1) ≡ closed run
 closed-last run h e =
-    rw (getD-any run (length run - 1) 1 0 (omega arith) ∙ e) (sym (and-true-r (not (hasZero (take (length run - 1) run)))))
+    rw (getD-any run (length run - 1) 1 0 (omega arith) ∙ e, zeros-before run (length run - 1) (omega arith) e) (sym (and-true-r (eqb (firstZero run) (length run - 1))))
 
 pub closed-open : (run : List ℕ) → 0 < length run → (getD run (length run - 1) 0 ≡ 0 → ⊥) → false ≡ closed run
 closed-open run h e =
@@ -269,9 +295,20 @@ opened (suc d) limit s at code h =
     simp sub-one
     (counted limit s (at + 4) (λ n. finished code at (elementsAt (listAt d limit s) limit s (kindOf (code - listCode)) n (at + 8))))
 
+-- no elements, of either kind of list
+elements-none : (inner : ℕ → ℕ → Parsed Elements) (limit : ℕ) (s : List ℕ) (found : KindFound) (pos : ℕ) → elementsAt inner limit s found 0 pos ≡ good none pos
+unfolding typedAt mixedAt
+elements-none inner limit s (Is k) pos = refl
+elements-none inner limit s Unknown pos = refl
+
 module _ (d limit : ℕ) (s : List ℕ) (at code : ℕ) (deep : d ≡ 0 → ⊥) (r : Checked) (is : r ≡ countAt limit s (at + 4)) where
   pub refused : (fault offset : ℕ) → r ≡ Bad fault offset → r ≡ checked (listAt d limit s at code)
   refused fault offset q = q ∙ sym (opened d limit s at code deep ∙ rw (← is, q))
+
+  -- a list of no elements
+  pub is-empty : (n : ℕ) → r ≡ Ok n → n ≡ 0 → checked (listAt d limit s at code) ≡ checked (cond (eqb code listCode) (good none (at + 8)) (bad 24 at))
+  is-empty n some h =
+      opened d limit s at code deep ∙ rw (← is, some, h, elements-none (listAt (d - 1) limit s) limit s (kindOf (code - listCode)) (at + 8), code-none)
 
   -- a list code that names a kind, or none
   module _ (n : ℕ) (some : r ≡ Ok n) (c : isListCode code ≡ true) where

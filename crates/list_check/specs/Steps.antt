@@ -2,7 +2,7 @@
 use Prim.Native.Nat.{ℕ, zero, suc, _+_, _^_, _≤_, _<_}
 use mathlib.Core.Path.{_≡_}
 use mathlib.Core.Bool.{true, cond}
-use mathlib.Core.List.{List}
+use mathlib.Core.List.{List, [], _∷_}
 use lib.Dec.{eqb, ltb}
 use Rattle.list.specs.declared.KindFound.{KindFound}
 use Rattle.list.specs.declared.KindFound.the-variants.{Is, Unknown}
@@ -25,6 +25,12 @@ unless (suc fault) stop go = stop (suc fault)
 -- where an item must end: at the limit, or where the bytes end
 abbrev pub lastEnd : ℕ → ℕ
 lastEnd size = cond (ltb listLimit size) listLimit size
+
+-- the offset of the first zero, the length where there is none
+unfoldable pub firstZero : List ℕ → ℕ
+firstZero [] = 0
+firstZero (zero ∷ bs) = 0
+firstZero (suc b ∷ bs) = suc (firstZero bs)
 
 -- an item of n bytes
 abbrev pub fixedAt : ℕ → List ℕ → ℕ → ℕ → Checked

@@ -8,12 +8,12 @@ ghost use mathlib.Core.Path.{_≡_};
 ghost use mathlib.Core.Bool.{true};
 ghost use Prim.Native.Nat.{_+_, _≤_, _<_, _^_};
 ghost use lib.ListN.{length};
-ghost use Rattle.list.specs.Limits.{listLimit};
+ghost use Rattle.list.specs.Limits.{listLimit, depthLimit};
 ghost use Rattle.list.specs.Bytes.{common};
 ghost use Rattle.list.specs.Parse.{itemFault, word, closed, stringAt, blobAt, valueAt, typedAt, isListCode, listAt, finished};
 ghost use Rattle.list.specs.Kind.{listCode, typedCode};
 ghost use Rattle.list_check.specs.Check.{checked, verdictOf, checkingOf};
-ghost use Rattle.list_check.specs.Steps.{lastEnd, fixedAt, countAt, headAt, headFrom, otherHead, closeOf, Within, WithinHead, Counted};
+ghost use Rattle.list_check.specs.Steps.{lastEnd, firstZero, fixedAt, countAt, headAt, headFrom, otherHead, closeOf, Within, WithinHead, Counted};
 
 // The bytes of a number.
 pub const NUMBER: usize = 4;
@@ -74,9 +74,22 @@ fn is_closed(run: &[u8]) -> bool
 {
     let last = run.len() - 1;
     if run[last] == 0 {
-        return !wire::has_zero(&run[0..last]);
+        return first_zero(run) == last;
     }
     false
+}
+
+// The offset of the first zero among bytes that have one. The loop tests no bound, so that the compiler makes a call of
+// strlen of it.
+fn first_zero(s: &[u8]) -> usize
+    requires { ⌜ firstZero (now s) < length (now s) ⌝ }
+    ensures { λ r. ⌜ r ≡ firstZero (now (s .entry)) ⌝ }
+{
+    let mut i: usize = 0;
+    while s[i] != 0 {
+        i += 1;
+    }
+    i
 }
 
 fn check_fixed(s: &[u8], at: usize, n: usize) -> Checked
@@ -350,6 +363,25 @@ fn check_list(s: &[u8], at: usize, code: u32, depth: usize) -> Checked
     close(at, seen, pos)
 }
 
+// The outermost list. One with no elements, which a hub with no devices publishes, is judged without a call of the recursive
+// checker.
+fn check_outermost(s: &[u8], code: u32) -> Checked
+    requires { ⌜ isListCode code ≡ true ⌝ }
+    ensures { λ r. ⌜ r ≡ checked (listAt depthLimit listLimit (now (s .entry)) 0 code) ⌝ }
+{
+    let opened = count_at(s, NUMBER);
+    let Checked::Ok(count) = opened else {
+        return opened;
+    };
+    if count == 0 {
+        if code == LIST_CODE {
+            return Checked::Ok(2 * NUMBER);
+        }
+        return Checked::Bad(24, 0);
+    }
+    check_list(s, 0, code, DEPTH_LIMIT)
+}
+
 // The list at the front.
 pub fn check(s: &[u8]) -> Checked
     ensures { λ r. ⌜ verdictOf r ≡ checkingOf (now (s .entry)) ⌝ }
@@ -360,7 +392,7 @@ pub fn check(s: &[u8]) -> Checked
     }
     let code = word_at(s, 0);
     if is_list_code(code) {
-        return check_list(s, 0, code, DEPTH_LIMIT);
+        return check_outermost(s, code);
     }
     Checked::Bad(22, 0)
 }

@@ -21,12 +21,12 @@ word-at-requires c κs = fault-fits _ _ _ _ (sym (c .before .fault .ensures) ∙
 is-list-code-requires : tie.Need-is-list-code-requires
 is-list-code-requires c κs = search needs
 
-check-list-requires : tie.Need-check-list-requires
-check-list-requires c κs = (search needs, sym (c .before .is-list-code .ensures) ∙ c .if2 .taken)
+check-outermost-requires : tie.Need-check-outermost-requires
+check-outermost-requires c κs = sym (c .before .is-list-code .ensures) ∙ c .if2 .taken
 
 returns-2 : tie.Need-returns-2
 unfolding parse
-returns-2 c = ap verdictOf (c .check-list .ensures .0) ∙ sym (rw (sym (c .before .before .before .before .before .fault .ensures) ∙ c .before .before .before .before .if1 .left, ← c .before .before .before .word-at .ensures, ← c .before .before .is-list-code .ensures, c .before .if2 .taken))
+returns-2 c = ap verdictOf (c .check-outermost .ensures) ∙ sym (rw (sym (c .before .before .before .before .before .fault .ensures) ∙ c .before .before .before .before .if1 .left, ← c .before .before .before .word-at .ensures, ← c .before .before .is-list-code .ensures, c .before .if2 .taken))
 
 returns-3 : tie.Need-returns-3
 unfolding parse
@@ -40,6 +40,6 @@ check-spec =
     returns
     word-at-requires
     is-list-code-requires
-    check-list-requires
+    check-outermost-requires
     returns-2
     returns-3)
