@@ -64,15 +64,17 @@ assigned c t socket payload =
     (cond (uidFree t socket (uidIn payload)) (placed t (rowOf socket payload) (placeFor t socket)) (refused t 14))
     (refused t 12)
 
--- "Handing in: 11, 9, 10, packet, 19; for ACK then ..": of the packet's refusals, 8 concerns the payload alone
-unfoldable pub acknowledged : List ℕ → Table → ℕ → List ℕ → Update
-acknowledged c t socket payload =
-    ifAdmitted (admitted c t socket) t
-    (cond (eqb (length payload) ackBytes) (assigned c t socket payload) (refused t 8))
+-- of the packet's refusals, 8 concerns the payload alone
+abbrev pub assignedBy : List ℕ → Table → ℕ → List ℕ → Update
+assignedBy c t socket payload = cond (eqb (length payload) ackBytes) (assigned c t socket payload) (refused t 8)
 
 -- the same by the paper's numbers
-abbrev pub acknowledging : List ℕ → Table → ℕ → List ℕ → Effect
-acknowledging c t socket payload = effectOf (acknowledged c t socket payload)
+abbrev pub assigning : List ℕ → Table → ℕ → List ℕ → Effect
+assigning c t socket payload = effectOf (assignedBy c t socket payload)
+
+-- "Handing in: 11, 9, 10, packet, 19; for ACK then .."
+unfoldable pub acknowledged : List ℕ → Table → ℕ → List ℕ → Update
+acknowledged c t socket payload = ifAdmitted (admitted c t socket) t (assignedBy c t socket payload)
 
 -- "Leaving empties the row"; 15, "socket has no guest"
 abbrev pub emptied : Table → Place → Update

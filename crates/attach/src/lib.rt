@@ -1,12 +1,14 @@
 // Devices come and go: an ACK gives a device its slot, a detach empties it.
 use table::Answer;
+use table::Change;
 use table::Place;
 use table::Slot;
 use table::Table;
 use table::Update;
+ghost use Prim.Native.Nat.{_<_};
 ghost use mathlib.Core.Path.{_≡_};
-ghost use Rattle.table.specs.Slots.{Within, effectOf};
-ghost use Rattle.attach.specs.Attach.{uidElsewhere, uidFree, placeFor, placed, assigned, acknowledging, emptied, detaching};
+ghost use Rattle.table.specs.Slots.{slotCount, Within, changed, effectOf};
+ghost use Rattle.attach.specs.Attach.{uidElsewhere, uidFree, placeFor, placed, assigning, emptied, detaching};
 
 // An ACK's payload: type, year and eight bytes of UID.
 const ACK_BYTES: usize = 10;
@@ -49,27 +51,30 @@ fn find_place(t: Table, socket: u8) -> Place
     }
 }
 
-fn place_row(t: Table, s: Slot, p: Place) -> Update
+// The row for that slot: 13 where there is none.
+fn place_row(s: Slot, p: Place) -> Change
     requires { ⌜ Within p ⌝ }
-    ensures { λ r. ⌜ r ≡ placed t s p ⌝ }
+    ensures { λ r. ⌜ ((t : Table) → effectOf (changed t r) ≡ effectOf (placed t s p)) × (r .at < slotCount) ⌝ }
 {
     match p {
         Place::At(i) => {
-            let mut u = t;
-            u.slots[i] = s;
-            Update {
+            return Change {
                 answer: Answer::Accepted,
-                table: u,
-            }
+                at: i,
+                slot: s,
+            };
         }
-        Place::Nowhere => table::refuse(t, 13),
+        Place::Nowhere => return table::no_change(13),
     }
 }
 
-// A device gets its slot, with no values held: 12, 14, 13.
-fn assign(c: &[u8], t: Table, socket: u8, payload: &[u8]) -> Update
-    ensures { λ r. ⌜ r ≡ assigned (now (c .entry)) t socket (now (payload .entry)) ⌝ }
+// What an ACK's payload from a socket asks of the table: 8, 12, 14, 13, or a row for the device with no values held.
+pub fn assign(c: &[u8], t: Table, socket: u8, payload: &[u8]) -> Change
+    ensures { λ r. ⌜ (effectOf (changed t r) ≡ assigning (now (c .entry)) t socket (now (payload .entry))) × (r .at < slotCount) ⌝ }
 {
+    if payload.len() != ACK_BYTES {
+        return table::no_change(8);
+    }
     let device = wire::byte_at(payload, 0);
     let year = wire::byte_at(payload, 1);
     let uid = numbers::u64_at(payload, 2);
@@ -78,27 +83,11 @@ fn assign(c: &[u8], t: Table, socket: u8, payload: &[u8]) -> Update
         if is_uid_free(t, socket, uid) {
             let s = table::new_slot(socket, device, year, uid);
             let p = find_place(t, socket);
-            return place_row(t, s, p);
+            return place_row(s, p);
         }
-        return table::refuse(t, 14);
+        return table::no_change(14);
     }
-    table::refuse(t, 12)
-}
-
-// An ACK's payload from a socket: 11, 9, 10, 8, 12, 14, 13, or the device has its slot.
-pub fn acknowledge(c: &[u8], t: Table, socket: u8, payload: &[u8]) -> Update
-    ensures { λ r. ⌜ effectOf r ≡ acknowledging (now (c .entry)) t socket (now (payload .entry)) ⌝ }
-{
-    let admission = table::admit(c, t, socket);
-    match admission {
-        Answer::Accepted => {
-            if payload.len() == ACK_BYTES {
-                return assign(c, t, socket, payload);
-            }
-            table::refuse(t, 8)
-        }
-        Answer::Refused(n) => table::refuse(t, n),
-    }
+    table::no_change(12)
 }
 
 fn empty_place(t: Table, p: Place) -> Update

@@ -1,7 +1,6 @@
 -- What the packet reader's answer says: an accepted payload lies in the working copy, and the answer decides what is received.
--- ACK and DEVICE_DATA judge 11, 9 and 10 by themselves, so no arm judges them twice.
 use Prim.Native.Nat.{ℕ, _+_, _≤_}
-use mathlib.Core.Path.{_≡_, refl, sym, ap, _∙_}
+use mathlib.Core.Path.{_≡_, sym, ap, _∙_}
 use mathlib.Core.List.{List}
 use native.Mathlib.Omega.{arith}
 use lib.ListN.{length, length-append}
@@ -9,14 +8,16 @@ use Rattle.packet.specs.TypeTable.{ACK, DEVICE_DATA}
 use Rattle.packet.specs.Message.{messageOf}
 use Rattle.packet.specs.Packet.{Reading, Judgement, accepted, decoded}
 use Rattle.packet.proofs.Accepted.{sound, sizes}
-use Rattle.table.specs.Lawful.{admitted, ifAdmitted}
+use Rattle.table.specs.Slots.{changed, effectOf}
+use Rattle.table.specs.Lawful.{admitted}
 use Rattle.table.specs.declared.Table.{Table}
-use Rattle.table.specs.declared.Answer.{Answer}
 use Rattle.table.specs.declared.Answer.the-variants as answer
+use Rattle.table.specs.declared.Change.{Change}
 use Rattle.table.specs.declared.Update.{Update}
-use Rattle.attach.specs.Attach.{acknowledged}
-use Rattle.parameters.specs.Data.{applied}
-use Rattle.hub.specs.Receive.{answering, byType, byReading, byJudgement, receivedIf, receivedOf}
+use Rattle.table.proofs.Answers.{effect-same}
+use Rattle.attach.specs.Attach.{assignedBy, assigning, acknowledged}
+use Rattle.parameters.specs.Data.{appliedBy, applying, applied}
+use Rattle.hub.specs.Receive.{refusing, answering, byType, byReading, byJudgement, receivedOf}
 
 module _ (s : List ℕ) (j : Judgement) (copy : List ℕ) (e : record { judgement = j; message = copy } ≡ decoded s) where
   -- an accepted payload and the two bytes before it are in the working copy
@@ -28,28 +29,24 @@ module _ (s : List ℕ) (j : Judgement) (copy : List ℕ) (e : record { judgemen
       let l = ap (λ (r : Reading). length (r .message)) e ∙ ap length (w .held) ∙ length-append (messageOf kind p) _ in
       (omega (arith, z .0, w .sized), omega (arith, l, z .1, w .sized))
 
-  -- what is received is decided by that answer
-  pub as-read :
-      (c : List ℕ) (t : Table) (socket : ℕ) → receivedIf (admitted c t socket) t (byJudgement c t socket j copy) ≡ receivedOf c t socket s
+  -- what is received is decided by that answer, where 11, 9 and 10 are not given
+  pub as-read : (c : List ℕ) (t : Table) (socket : ℕ) → admitted c t socket ≡ answer.Accepted → byJudgement c t socket j copy ≡ receivedOf c t socket s
   unfolding receivedOf
-  as-read c t socket = ap (λ (r : Reading). receivedIf (admitted c t socket) t (byReading c t socket r)) e
+  as-read c t socket a = rw a (ap (byReading c t socket) e)
 
--- an update that is made where a call is admitted
-once :
-    (a : Answer) (t : Table) (u : Update) (consumed : ℕ) →
-    answering (ifAdmitted a t u) consumed ≡ receivedIf a t (answering (ifAdmitted a t u) consumed)
-once answer.Accepted t u consumed = refl
-once (answer.Refused number) t u consumed = refl
+-- 11, 9 and 10 come first
+pub not-admitted :
+    (c : List ℕ) (t : Table) (socket : ℕ) (s : List ℕ) (number : ℕ) → admitted c t socket ≡ answer.Refused number →
+    refusing t number ≡ receivedOf c t socket s
+unfolding receivedOf
+not-admitted c t socket s number a = rw a
 
-module _ (c : List ℕ) (t : Table) (socket : ℕ) (payload : List ℕ) (consumed : ℕ) (u : Update) where
-  pub ack-once :
-      u ≡ acknowledged c t socket payload →
-      answering u consumed ≡ receivedIf (admitted c t socket) t (byType c t socket ACK payload consumed)
+-- what a change answers, where 11, 9 and 10 are not given
+module _ (c : List ℕ) (t : Table) (socket : ℕ) (payload : List ℕ) (consumed : ℕ) (x : Change) (a : admitted c t socket ≡ answer.Accepted) where
+  pub ack-answers : effectOf (changed t x) ≡ assigning c t socket payload → answering (changed t x) consumed ≡ byType c t socket ACK payload consumed
   unfolding byType acknowledged
-  ack-once e = ap (λ (v : Update). answering v consumed) e ∙ once (admitted c t socket) t _ consumed
+  ack-answers e = rw a (ap (λ (v : Update). answering v consumed) (effect-same (changed t x) (assignedBy c t socket payload) e))
 
-  pub data-once :
-      u ≡ applied c t socket payload →
-      answering u consumed ≡ receivedIf (admitted c t socket) t (byType c t socket DEVICE_DATA payload consumed)
+  pub data-answers : effectOf (changed t x) ≡ applying c t socket payload → answering (changed t x) consumed ≡ byType c t socket DEVICE_DATA payload consumed
   unfolding byType applied
-  data-once e = ap (λ (v : Update). answering v consumed) e ∙ once (admitted c t socket) t _ consumed
+  data-answers e = rw a (ap (λ (v : Update). answering v consumed) (effect-same (changed t x) (appliedBy c t socket payload) e))

@@ -5,11 +5,13 @@ use packet::ACK;
 use packet::DEVICE_DATA;
 use packet::LOG;
 use table::Answer;
+use table::Change;
+use table::Slot;
 use table::Table;
-use table::Update;
+ghost use Prim.Native.Nat.{_<_};
 ghost use mathlib.Core.Path.{_≡_};
-ghost use Rattle.table.specs.Lawful.{admitted};
-ghost use Rattle.hub.specs.Receive.{outcomeOf, meaning, keeping, refusing, accepting, answering, byType, receivedIf, receivedOf};
+ghost use Rattle.table.specs.Slots.{slotCount, withSlot, changed};
+ghost use Rattle.hub.specs.Receive.{meaning, refusing, accepting, answering, receivedOf};
 
 // An error, the table as it was.
 fn refuse(t: Table, number: u8) -> Received
@@ -21,7 +23,7 @@ fn refuse(t: Table, number: u8) -> Received
     }
 }
 
-// An accepted packet answers the bytes consumed, beside the table as it was changed.
+// An accepted packet answers the bytes consumed.
 fn accept(t: Table, consumed: usize) -> Received
     ensures { λ r. ⌜ meaning r ≡ accepting t consumed ⌝ }
 {
@@ -31,46 +33,49 @@ fn accept(t: Table, consumed: usize) -> Received
     }
 }
 
-// What a change of the table answers, where the packet is `consumed` bytes long.
-fn answer_update(u: Update, consumed: usize) -> Received
-    ensures { λ r. ⌜ meaning r ≡ answering u consumed ⌝ }
+// The same with another row in a slot.
+fn accept_row(t: Table, at: usize, s: Slot, consumed: usize) -> Received
+    requires { ⌜ at < slotCount ⌝ }
+    ensures { λ r. ⌜ meaning r ≡ accepting (withSlot t at s) consumed ⌝ }
 {
-    let a = u.answer;
-    let t = u.table;
+    let mut u = t;
+    u.slots[at] = s;
+    Received {
+        answer: Receipt::Accepted(consumed),
+        table: u,
+    }
+}
+
+// What a change answers, where the packet is `consumed` bytes long.
+fn answer_change(t: Table, x: Change, consumed: usize) -> Received
+    requires { ⌜ x .at < slotCount ⌝ }
+    ensures { λ r. ⌜ meaning r ≡ answering (changed t x) consumed ⌝ }
+{
+    let a = x.answer;
     match a {
-        Answer::Accepted => accept(t, consumed),
-        Answer::Refused(number) => refuse(t, number),
+        Answer::Accepted => {
+            let s = x.slot;
+            return accept_row(t, x.at, s, consumed);
+        }
+        Answer::Refused(number) => return refuse(t, number),
     }
 }
 
-// An answer that leaves the table as it was, unless it is 11, 9 or 10.
-fn answer_only(c: &[u8], t: Table, socket: u8, answer: Receipt) -> Received
-    ensures { λ r. ⌜ meaning r ≡ receivedIf (admitted (now (c .entry)) t socket) t (keeping t (outcomeOf answer)) ⌝ }
-{
-    let a = table::admit(c, t, socket);
-    match a {
-        Answer::Accepted => Received { answer, table: t },
-        Answer::Refused(number) => refuse(t, number),
-    }
-}
-
-// A message by its type; each arm judges 11, 9 and 10 once. PING and DEVICE_WRITE are for devices, not for the hub.
-fn dispatch(c: &[u8], t: Table, socket: u8, kind: u8, payload: &[u8], consumed: usize) -> Received
-    ensures { λ r. ⌜ meaning r ≡ receivedIf (admitted (now (c .entry)) t socket) t (byType (now (c .entry)) t socket kind (now (payload .entry)) consumed) ⌝ }
-{
-    match kind {
-        ACK => answer_update(attach::acknowledge(c, t, socket, payload), consumed),
-        DEVICE_DATA => answer_update(parameters::apply_data(c, t, socket, payload), consumed),
-        LOG => answer_only(c, t, socket, Receipt::Accepted(consumed)),
-        _ => answer_only(c, t, socket, Receipt::Refused(19)),
-    }
-}
-
-// Receives the packet at the front of the bytes from a socket: 11, 9, 10, the packet's error, 19, then what its type asks.
-// Reading a packet touches nothing, so it comes before 11, 9 and 10 in the code; its error comes behind them in the answer.
+// Receives the packet at the front of the bytes from a socket: 11, 9, 10, the packet's error, 19, then what its type asks. PING and
+// DEVICE_WRITE are for devices, not for the hub. Every answer is returned from here, since each further function on the way that
+// takes or answers a table copies it.
 pub fn receive(catalogue: &[u8], table: Table, socket: u8, bytes: &[u8]) -> Received
     ensures { λ r. ⌜ meaning r ≡ receivedOf (now (catalogue .entry)) table socket (now (bytes .entry)) ⌝ }
 {
+    if !catalogue::is_legal(catalogue) {
+        return refuse(table, 11);
+    }
+    if !table::is_lawful(catalogue, table) {
+        return refuse(table, 9);
+    }
+    if table::SOCKETS <= socket {
+        return refuse(table, 10);
+    }
     // The working copy is lent: one that the reader returns is copied on the way.
     let mut message = [0u8; packet::PACKET_ROOM];
     let a = packet::decode_into(bytes, &mut message);
@@ -84,14 +89,19 @@ pub fn receive(catalogue: &[u8], table: Table, socket: u8, bytes: &[u8]) -> Rece
             // Not reached: an answer that is no packet is a refusal.
             return refuse(table, 0);
         };
-        return answer_only(catalogue, table, socket, Receipt::Refused(number));
+        return refuse(table, number);
     };
-    dispatch(
-        catalogue,
-        table,
-        socket,
-        kind,
-        &message[2..2 + payload_len],
-        consumed,
-    )
+    let payload = &message[2..2 + payload_len];
+    match kind {
+        ACK => {
+            let x = attach::assign(catalogue, table, socket, payload);
+            return answer_change(table, x, consumed);
+        }
+        DEVICE_DATA => {
+            let x = parameters::apply_data(catalogue, table, socket, payload);
+            return answer_change(table, x, consumed);
+        }
+        LOG => return accept(table, consumed),
+        _ => return refuse(table, 19),
+    }
 }

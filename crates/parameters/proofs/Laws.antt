@@ -7,7 +7,7 @@ use mathlib.Core.Logic.{inl, inr, _≢_}
 use lib.ListN.{length}
 use Rattle.catalogue.specs.Format.{kindBool}
 use Rattle.catalogue.specs.Lookup.{parameterOf}
-use Rattle.table.specs.Slots.{slotCount, paramCount, ShapedSlot, Shaped, slotAt, withSlot, slotOf, refused, accepted}
+use Rattle.table.specs.Slots.{slotCount, paramCount, ShapedSlot, Shaped, slotAt, withSlot, slotOf, refused, accepted, changedIf}
 use Rattle.table.specs.Lawful.{presentAt, bitsAt, LawfulSlot, Lawful, lawful, admitted, ifAdmitted}
 use Rattle.table.specs.declared.Slot.{Slot}
 use Rattle.table.specs.declared.Table.{Table}
@@ -22,7 +22,7 @@ use Rattle.table.proofs.Meaning.{lawful-means}
 use Rattle.table.proofs.Keeps.{Apart}
 use Rattle.table.proofs.Admission.{isAccepted}
 use Rattle.table.proofs.Outcome.{Changed, Outcome, outcome-others, outcome-refused, outcome-accepted, outcome-lawful, outcome-shaped}
-use Rattle.parameters.specs.Data.{mapOf, named, valueIn, judged, stored, appliedIf, appliedTo, appliedAt, dataSized, appliedBy, applied}
+use Rattle.parameters.specs.Data.{mapOf, named, valueIn, judged, stored, appliedTo, appliedAt, dataSized, appliedBy, applied}
 use Rattle.parameters.proofs.Judged.{Judged, judged-means}
 use Rattle.parameters.proofs.Values.{SameDevice, data-same-device, data-present, data-bits, data-shaped-slot}
 
@@ -84,7 +84,7 @@ module _ (c : List ℕ) (t : Table) (socket : ℕ) (payload : List ℕ) where
   at-outcome Nowhere = inr (record { number = 15; result = refl })
   at-outcome (At i) = go (judged c (slotAt t i .device) payload)
     where
-      go : (a : Answer) → Outcome t (At i) rowAt (appliedIf a t i (rowAt i))
+      go : (a : Answer) → Outcome t (At i) rowAt (changedIf a t i (rowAt i))
       go Accepted = inl (record { index = i; place = refl; result = refl })
       go (Refused n) = inr (record { number = n; result = refl })
 
@@ -132,7 +132,7 @@ module _ (c : List ℕ) (t : Table) (socket : ℕ) (payload : List ℕ) where
   unfolding applied appliedBy appliedTo
   was-judged i e = go (admitted c t socket) (dataSized (length payload))
     where
-      at-slot : (b : Answer) → appliedIf b t i (rowAt i) .answer ≡ Accepted → b ≡ Accepted
+      at-slot : (b : Answer) → changedIf b t i (rowAt i) .answer ≡ Accepted → b ≡ Accepted
       at-slot Accepted q = refl
       at-slot (Refused n) q = q
 

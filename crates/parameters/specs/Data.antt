@@ -8,7 +8,7 @@ use Rattle.wire.specs.Every.{every}
 use Rattle.wire.specs.Number.{numberAt}
 use Rattle.catalogue.specs.Format.{kindInt, kindFloat, kindBool}
 use Rattle.catalogue.specs.Lookup.{parameterOf}
-use Rattle.table.specs.Slots.{paramCount, slotAt, withSlot, slotOf, refused, accepted, Effect, effectOf}
+use Rattle.table.specs.Slots.{paramCount, slotAt, slotOf, refused, changedIf, Effect, effectOf}
 use Rattle.table.specs.Lawful.{admitted, ifAdmitted}
 use Rattle.table.specs.declared.Slot.{Slot}
 use Rattle.table.specs.declared.Table.{Table}
@@ -115,14 +115,9 @@ storedTo c device map payload s (suc p) =
 abbrev pub stored : List ℕ → List ℕ → Slot → Slot
 stored c payload s = storedTo c (s .device) (mapOf payload) payload s paramCount
 
--- "Table and lent areas keep their old contents" where the payload is refused
-abbrev pub appliedIf : Answer → Table → ℕ → Slot → Update
-appliedIf Accepted t i s = accepted (withSlot t i s)
-appliedIf (Refused number) t i s = refused t number
-
 -- judged by the seated type, then written
 unfoldable pub appliedTo : List ℕ → Table → List ℕ → ℕ → Update
-appliedTo c t payload i = appliedIf (judged c (slotAt t i .device) payload) t i (stored c payload (slotAt t i))
+appliedTo c t payload i = changedIf (judged c (slotAt t i .device) payload) t i (stored c payload (slotAt t i))
 
 -- 15, "socket has no guest"
 abbrev pub appliedAt : List ℕ → Table → List ℕ → Place → Update
@@ -133,10 +128,10 @@ appliedAt c t payload Nowhere = refused t 15
 unfoldable pub appliedBy : List ℕ → Table → ℕ → List ℕ → Update
 appliedBy c t socket payload = cond (dataSized (length payload)) (appliedAt c t payload (slotOf t socket)) (refused t 8)
 
+-- the same by the paper's numbers
+abbrev pub applying : List ℕ → Table → ℕ → List ℕ → Effect
+applying c t socket payload = effectOf (appliedBy c t socket payload)
+
 -- "Handing in: 11, 9, 10, packet, 19; .. for data .."
 unfoldable pub applied : List ℕ → Table → ℕ → List ℕ → Update
 applied c t socket payload = ifAdmitted (admitted c t socket) t (appliedBy c t socket payload)
-
--- the same by the paper's numbers
-abbrev pub applying : List ℕ → Table → ℕ → List ℕ → Effect
-applying c t socket payload = effectOf (applied c t socket payload)

@@ -1,10 +1,10 @@
 // DEVICE_DATA: all is judged before anything is written.
 use table::Answer;
+use table::Change;
 use table::PARAMS;
 use table::Place;
 use table::Slot;
 use table::Table;
-use table::Update;
 ghost use Prim.Native.Nat.{_≤_, _<_};
 ghost use mathlib.Core.Path.{_≡_};
 ghost use mathlib.Core.Bool.{_&&_, _||_, not, cond};
@@ -12,8 +12,8 @@ ghost use lib.Dec.{leb, eqb};
 ghost use Rattle.wire.specs.Number.{numberAt};
 ghost use Rattle.catalogue.specs.Format.{kindBool, described};
 ghost use Rattle.catalogue.specs.Lookup.{deviceOf, BytesIn};
-ghost use Rattle.table.specs.Slots.{slotCount, paramCount, effectOf};
-ghost use Rattle.parameters.specs.Data.{width, sizeOf, allReadable, allFlags, judged, storedTo, appliedTo, dataSized, appliedBy, applying};
+ghost use Rattle.table.specs.Slots.{slotCount, paramCount, changedIf, changed, effectOf};
+ghost use Rattle.parameters.specs.Data.{width, sizeOf, allReadable, allFlags, judged, storedTo, stored, dataSized, applying};
 
 // The bytes before the first value: the map's.
 const MAP_BYTES: usize = 4;
@@ -179,11 +179,11 @@ fn store(c: &[u8], device: u8, bytes: [u8; PARAMS], map: u32, payload: &[u8], s:
     t
 }
 
-fn apply_at(c: &[u8], t: Table, i: usize, payload: &[u8]) -> Update
+// The row of slot `i` with the payload's values, or the error of the payload.
+fn change_row(c: &[u8], s: Slot, i: usize, payload: &[u8]) -> Change
     requires { ⌜ i < slotCount ⌝ }
-    ensures { λ r. ⌜ r ≡ appliedTo (now (c .entry)) t (now (payload .entry)) i ⌝ }
+    ensures { λ r. ⌜ ((t : Table) → effectOf (changed t r) ≡ effectOf (changedIf (judged (now (c .entry)) (s .device) (now (payload .entry))) t i (stored (now (c .entry)) (now (payload .entry)) s))) × (r .at < slotCount) ⌝ }
 {
-    let s = t.slots[i];
     let device = s.device;
     let d = catalogue::find_device(c, device);
     let bytes = catalogue::parameter_bytes(c, d);
@@ -192,14 +192,13 @@ fn apply_at(c: &[u8], t: Table, i: usize, payload: &[u8]) -> Update
         Answer::Accepted => {
             let map = numbers::u32_at(payload, 0);
             let n = store(c, device, bytes, map, payload, s);
-            let mut u = t;
-            u.slots[i] = n;
-            Update {
+            return Change {
                 answer: Answer::Accepted,
-                table: u,
-            }
+                at: i,
+                slot: n,
+            };
         }
-        Answer::Refused(number) => table::refuse(t, number),
+        Answer::Refused(number) => return table::no_change(number),
     }
 }
 
@@ -209,26 +208,19 @@ fn is_data_size(n: usize) -> bool
     MAP_BYTES <= n && n <= DATA_MOST
 }
 
-fn apply_payload(c: &[u8], t: Table, socket: u8, payload: &[u8]) -> Update
-    ensures { λ r. ⌜ r ≡ appliedBy (now (c .entry)) t socket (now (payload .entry)) ⌝ }
+// What a DEVICE_DATA payload from a socket asks of the table: 8, 15, 16, 17, 18, or the socket's row with the values that its map
+// names replaced.
+pub fn apply_data(c: &[u8], t: Table, socket: u8, payload: &[u8]) -> Change
+    ensures { λ r. ⌜ (effectOf (changed t r) ≡ applying (now (c .entry)) t socket (now (payload .entry))) × (r .at < slotCount) ⌝ }
 {
     if is_data_size(payload.len()) {
-        let p = table::find_slot(t, socket);
+        let row = table::find_row(t, socket);
+        let p = row.place;
+        let s = row.slot;
         match p {
-            Place::At(i) => return apply_at(c, t, i, payload),
-            Place::Nowhere => return table::refuse(t, 15),
+            Place::At(i) => return change_row(c, s, i, payload),
+            Place::Nowhere => return table::no_change(15),
         }
     }
-    table::refuse(t, 8)
-}
-
-// A DEVICE_DATA payload from a socket: 11, 9, 10, 8, 15, 16, 17, 18, or the values that its map names are replaced.
-pub fn apply_data(c: &[u8], t: Table, socket: u8, payload: &[u8]) -> Update
-    ensures { λ r. ⌜ effectOf r ≡ applying (now (c .entry)) t socket (now (payload .entry)) ⌝ }
-{
-    let a = table::admit(c, t, socket);
-    match a {
-        Answer::Accepted => apply_payload(c, t, socket, payload),
-        Answer::Refused(number) => table::refuse(t, number),
-    }
+    table::no_change(8)
 }

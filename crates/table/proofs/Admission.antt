@@ -4,7 +4,7 @@ use mathlib.Core.Path.{_≡_, refl, sym, ap}
 use mathlib.Core.Bool.{Bool, true, false, cond}
 use mathlib.Core.List.{List}
 use lib.Dec.{ltb}
-use borrow.Author.Tests.{ltb-true}
+use borrow.Author.Tests.{lt-ltb, ltb-true}
 use Rattle.catalogue.specs.Format.{legal}
 use Rattle.table.specs.Slots.{socketCount}
 use Rattle.table.specs.Lawful.{lawful, admitted}
@@ -32,3 +32,9 @@ admitted-means c t socket = go (legal c) (lawful c t) (ltb socket socketCount) r
     go true true false e q = never (sym (ap isAccepted q))
     go true false d e q = never (sym (ap isAccepted q))
     go false b d e q = never (sym (ap isAccepted q))
+
+-- LAW: and a call where none of them is given is admitted
+pub means-admitted :
+    (c : List ℕ) (t : Table) (socket : ℕ) → legal c ≡ true → lawful c t ≡ true → socket < socketCount → admitted c t socket ≡ Accepted
+unfolding admitted
+means-admitted c t socket l w n = rw (l, w, lt-ltb _ _ n)

@@ -1,12 +1,14 @@
 -- An answer and an update are what their verdict and effect say: a caller who knows these knows which case it has.
-use Prim.Native.Nat.{ℕ}
+use Prim.Native.Nat.{ℕ, _<_}
 use mathlib.Core.Path.{_≡_, refl, sym, ap, _∙_}
 use mathlib.Core.List.{List}
-use Rattle.table.specs.Slots.{Verdict, accepts, refuses, verdictOf, Effect, effectOf}
+use native.Mathlib.Omega.{arith}
+use Rattle.table.specs.Slots.{slotCount, emptySlot, changedIf, changed, refusal, Verdict, accepts, refuses, verdictOf, Effect, effectOf}
 use Rattle.table.specs.Lawful.{admitted, admission}
 use Rattle.table.specs.declared.Table.{Table}
 use Rattle.table.specs.declared.Answer.{Answer}
 use Rattle.table.specs.declared.Answer.the-variants.{Accepted, Refused}
+use Rattle.table.specs.declared.Change.{Change}
 use Rattle.table.specs.declared.Update.{Update}
 
 -- the case of each verdict
@@ -37,3 +39,12 @@ effect-same u v e = sym (update-back u) ∙ ap updateOf e ∙ update-back v
 pub admitted-told :
     (c : List ℕ) (t : Table) (socket : ℕ) (a case : Answer) → verdictOf a ≡ admission c t socket → a ≡ case → admitted c t socket ≡ case
 admitted-told c t socket a case e told = sym (verdict-same a (admitted c t socket) e) ∙ told
+
+-- LAW: a change that is an error number keeps the table
+pub refused-change :
+    (t : Table) (x : Change) (number : ℕ) → (verdictOf (x .answer) ≡ refuses number) × (x .at ≡ 0) × (x .slot ≡ emptySlot) →
+    (effectOf (changed t x) ≡ refusal t number) × (x .at < slotCount)
+refused-change t x number e = (
+  ap (λ (a : Answer). effectOf (changedIf a t (x .at) (x .slot))) (verdict-same (x .answer) (Refused number) (e .0)),
+  omega (arith, e .1),
+)

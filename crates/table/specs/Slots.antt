@@ -13,6 +13,7 @@ use Rattle.table.specs.declared.Place.{Place}
 use Rattle.table.specs.declared.Place.the-variants.{At, Nowhere}
 use Rattle.table.specs.declared.Answer.{Answer}
 use Rattle.table.specs.declared.Answer.the-variants.{Accepted, Refused}
+use Rattle.table.specs.declared.Change.{Change}
 use Rattle.table.specs.declared.Update.{Update}
 
 -- "seats four"
@@ -83,6 +84,11 @@ slotFrom (suc n) t socket i = cond (holds (slotAt t i) socket) (At i) (slotFrom 
 abbrev pub slotOf : Table → ℕ → Place
 slotOf t socket = slotFrom slotCount t socket 0
 
+-- the row at a place, an empty one where there is none
+abbrev pub rowAt : Table → Place → Slot
+rowAt t (At i) = slotAt t i
+rowAt t Nowhere = emptySlot
+
 -- "the lowest empty seat", of the n slots from slot i on
 unfoldable pub freeFrom : ℕ → Table → ℕ → Place
 freeFrom zero t i = Nowhere
@@ -104,6 +110,15 @@ refused t n = record { answer = Refused n; table = t }
 -- accepted, with the table afterwards
 abbrev pub accepted : Table → Update
 accepted t = record { answer = Accepted; table = t }
+
+-- a slot has another row, or "Table .. keep their old contents" where that is refused
+abbrev pub changedIf : Answer → Table → ℕ → Slot → Update
+changedIf Accepted t i s = accepted (withSlot t i s)
+changedIf (Refused number) t i s = refused t number
+
+-- what a change does to a table
+abbrev pub changed : Table → Change → Update
+changed t x = changedIf (x .answer) t (x .at) (x .slot)
 
 -- what a call's answer says: accepted, or "Each refusal returns its number"
 pub data Verdict : Type 0 where

@@ -6,9 +6,11 @@ pub use lawful::admit;
 pub use lawful::is_lawful;
 pub use slots::empty_slot;
 pub use slots::empty_table;
+pub use slots::find_row;
 pub use slots::find_slot;
 pub use slots::free_slot;
 pub use slots::new_slot;
+pub use slots::no_change;
 pub use slots::refuse;
 
 pub const SLOTS: usize = 4;
@@ -39,10 +41,24 @@ pub enum Place {
     Nowhere,
 }
 
+// The row of a socket's device and which slot it is, or an empty row and nowhere.
+pub struct Found {
+    pub place: Place,
+    pub slot: Slot,
+}
+
 // A call's answer: accepted, or refused with its error number.
 pub enum Answer {
     Accepted,
     Refused(u8),
+}
+
+// What a packet asks of the table: a row for the slot `at`, or an error number. It is put into the table by whoever has judged
+// the table; by itself it changes nothing. The slot is small beside a table, which is copied wherever it goes.
+pub struct Change {
+    pub answer: Answer,
+    pub at: usize,
+    pub slot: Slot,
 }
 
 // A call's answer, and the table afterwards.

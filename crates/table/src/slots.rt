@@ -1,5 +1,7 @@
 // Slots: made, found and replaced.
 use crate::Answer;
+use crate::Change;
+use crate::Found;
 use crate::PARAMS;
 use crate::Place;
 use crate::SLOTS;
@@ -9,7 +11,7 @@ use crate::Update;
 ghost use Prim.Native.Nat.{_<_};
 ghost use mathlib.Core.Path.{_≡_};
 ghost use mathlib.Core.Bool.{true};
-ghost use Rattle.table.specs.Slots.{freshSlot, emptySlot, emptyTable, holds, slotOf, freeOf, Within, effectOf, refusal};
+ghost use Rattle.table.specs.Slots.{freshSlot, emptySlot, emptyTable, holds, slotOf, rowAt, freeOf, Within, refuses, verdictOf, effectOf, refusal};
 
 // A row with no values held: every row is made here.
 fn fresh_slot(taken: bool, socket: u8, device: u8, year: u8, uid: u64) -> Slot
@@ -55,21 +57,37 @@ fn is_on(s: Slot, socket: u8) -> bool
     false
 }
 
-// The slot of the device on a socket.
-pub fn find_slot(t: Table, socket: u8) -> Place
-    ensures { λ r. ⌜ (r ≡ slotOf t socket) × Within r ⌝ }
+// The row of the device on a socket. Here each slot is read at an index that the compiler knows, so that a caller copies one row
+// and not the table.
+pub fn find_row(t: Table, socket: u8) -> Found
+    ensures { λ r. ⌜ (r .place ≡ slotOf t socket) × Within (r .place) × (r .slot ≡ rowAt t (slotOf t socket)) ⌝ }
 {
     let mut n: usize = SLOTS;
     let mut i = 0;
     while 0 < n {
         let s = t.slots[i];
         if is_on(s, socket) {
-            return Place::At(i);
+            return Found {
+                place: Place::At(i),
+                slot: s,
+            };
         }
         i += 1;
         n -= 1;
     }
-    Place::Nowhere
+    let none = empty_slot();
+    Found {
+        place: Place::Nowhere,
+        slot: none,
+    }
+}
+
+// The slot of the device on a socket.
+pub fn find_slot(t: Table, socket: u8) -> Place
+    ensures { λ r. ⌜ (r ≡ slotOf t socket) × Within r ⌝ }
+{
+    let row = find_row(t, socket);
+    row.place
 }
 
 // The lowest empty slot.
@@ -97,5 +115,17 @@ pub fn refuse(t: Table, number: u8) -> Update
     Update {
         answer: Answer::Refused(number),
         table: t,
+    }
+}
+
+// No row for any slot, but an error number.
+pub fn no_change(error: u8) -> Change
+    ensures { λ r. ⌜ (verdictOf (r .answer) ≡ refuses error) × (r .at ≡ 0) × (r .slot ≡ emptySlot) ⌝ }
+{
+    let nothing = empty_slot();
+    Change {
+        answer: Answer::Refused(error),
+        at: 0,
+        slot: nothing,
     }
 }

@@ -1,9 +1,16 @@
 -- `attach::assign` meets its contract, by the tests that lead to each answer.
 use borrow.Author.Needs.{needs}
-use Rattle.table.proofs.Answers.{effect-same}
+use borrow.Author.Tests.{eq-eqb, ne-eqb}
+use Rattle.table.proofs.Answers.{refused-change}
 use Rattle.attach.specs.Attach.{assigned}
 use Rattle.attach.proofs.assign.Statement.{statement}
 use Rattle.attach.proofs.assign.Tie as tie
+
+no-change-requires : tie.Need-no-change-requires
+no-change-requires c κs = search needs
+
+returns : tie.Need-returns
+returns c = rw (ne-eqb _ _ (c .before .if1 .taken)) (refused-change _ (c .no-change .result) _ (c .no-change .ensures))
 
 byte-at-requires : tie.Need-byte-at-requires
 byte-at-requires c κs = search needs
@@ -27,54 +34,59 @@ find-place-requires : tie.Need-find-place-requires
 find-place-requires c κs = search needs
 
 place-row-requires : tie.Need-place-row-requires
-place-row-requires c κs = c .find-place .ensures .1
-
-returns : tie.Need-returns
-unfolding assigned
-returns c =
-    rw (
-      ← c .before .before .before .before .before .before .before .before .before .byte-at .ensures,
-      ← c .before .before .before .before .before .before .before .before .byte-at2 .ensures,
-      ← c .before .before .before .before .before .before .before .u64-at .ensures,
-      ← c .before .before .before .before .before .before .find-device .ensures,
-      c .before .before .before .before .before .if1 .taken,
-      ← c .before .before .before .before .is-uid-free .ensures,
-      c .before .before .before .if2 .taken,
-      ← c .before .before .new-slot .ensures,
-      ← c .before .find-place .ensures .0,
-    ) (c .place-row .ensures)
-
-refuse-requires : tie.Need-refuse-requires
-refuse-requires c κs = search needs
+place-row-requires c κs = search needs
 
 returns-2 : tie.Need-returns-2
 unfolding assigned
 returns-2 c =
     rw (
-      ← c .before .before .before .before .before .before .before .byte-at .ensures,
-      ← c .before .before .before .before .before .u64-at .ensures,
-      ← c .before .before .before .before .find-device .ensures,
-      c .before .before .before .if1 .taken,
-      ← c .before .before .is-uid-free .ensures,
-      c .before .if2 .left,
-    ) (effect-same _ _ (c .refuse .ensures))
+      eq-eqb _ _ (c .before .before .before .before .before .before .before .before .before .before .if1 .left),
+      ← c .before .before .before .before .before .before .before .before .before .byte-at .ensures,
+      ← c .before .before .before .before .before .before .before .before .byte-at2 .ensures,
+      ← c .before .before .before .before .before .before .before .u64-at .ensures,
+      ← c .before .before .before .before .before .before .find-device .ensures,
+      c .before .before .before .before .before .if2 .taken,
+      ← c .before .before .before .before .is-uid-free .ensures,
+      c .before .before .before .if3 .taken,
+      ← c .before .before .new-slot .ensures,
+      ← c .before .find-place .ensures .0,
+    ) (c .place-row .ensures .0 _, c .place-row .ensures .1)
 
-refuse-requires-2 : tie.Need-refuse-requires-2
-refuse-requires-2 c κs = search needs
+no-change-requires-2 : tie.Need-no-change-requires-2
+no-change-requires-2 c κs = search needs
 
 returns-3 : tie.Need-returns-3
 unfolding assigned
 returns-3 c =
     rw (
+      eq-eqb _ _ (c .before .before .before .before .before .before .before .before .if1 .left),
+      ← c .before .before .before .before .before .before .before .byte-at .ensures,
+      ← c .before .before .before .before .before .u64-at .ensures,
+      ← c .before .before .before .before .find-device .ensures,
+      c .before .before .before .if2 .taken,
+      ← c .before .before .is-uid-free .ensures,
+      c .before .if3 .left,
+    ) (refused-change _ (c .no-change2 .result) _ (c .no-change2 .ensures))
+
+no-change-requires-3 : tie.Need-no-change-requires-3
+no-change-requires-3 c κs = search needs
+
+returns-4 : tie.Need-returns-4
+unfolding assigned
+returns-4 c =
+    rw (
+      eq-eqb _ _ (c .before .before .before .before .before .before .if1 .left),
       ← c .before .before .before .before .before .byte-at .ensures,
       ← c .before .before .find-device .ensures,
-      c .before .if1 .left,
-    ) (effect-same _ _ (c .refuse2 .ensures))
+      c .before .if2 .left,
+    ) (refused-change _ (c .no-change3 .result) _ (c .no-change3 .ensures))
 
 pub assign-spec : {M : Type 1} → statement M
 assign-spec =
     tie.close
     (tie.spec
+    no-change-requires
+    returns
     byte-at-requires
     byte-at-requires-2
     u64-at-requires
@@ -83,8 +95,8 @@ assign-spec =
     new-slot-requires
     find-place-requires
     place-row-requires
-    returns
-    refuse-requires
     returns-2
-    refuse-requires-2
-    returns-3)
+    no-change-requires-2
+    returns-3
+    no-change-requires-3
+    returns-4)
