@@ -7,7 +7,8 @@ use table::Table;
 use table::Update;
 ghost use Prim.Native.Nat.{_<_};
 ghost use mathlib.Core.Path.{_≡_};
-ghost use Rattle.table.specs.Slots.{slotCount, Within, changed, effectOf};
+ghost use mathlib.Core.Bool.{true};
+ghost use Rattle.table.specs.Slots.{slotCount, freshSlot, Within, changed, effectOf};
 ghost use Rattle.attach.specs.Attach.{uidElsewhere, uidFree, placeFor, placed, assigning, emptied, detaching};
 
 // An ACK's payload: type, year and eight bytes of UID.
@@ -51,13 +52,14 @@ fn find_place(t: Table, socket: u8) -> Place
     }
 }
 
-// The row for that slot: 13 where there is none.
-fn place_row(s: Slot, p: Place) -> Change
+// A device's row for that slot, with no values held: 13 where there is none.
+fn place_row(p: Place, socket: u8, device: u8, year: u8, uid: u64) -> Change
     requires { ⌜ Within p ⌝ }
-    ensures { λ r. ⌜ ((t : Table) → effectOf (changed t r) ≡ effectOf (placed t s p)) × (r .at < slotCount) ⌝ }
+    ensures { λ r. ⌜ ((t : Table) → effectOf (changed t r) ≡ effectOf (placed t (freshSlot true socket device year uid) p)) × (r .at < slotCount) ⌝ }
 {
     match p {
         Place::At(i) => {
+            let s = table::new_slot(socket, device, year, uid);
             return Change {
                 answer: Answer::Accepted,
                 at: i,
@@ -81,9 +83,8 @@ pub fn assign(c: &[u8], t: Table, socket: u8, payload: &[u8]) -> Change
     let d = catalogue::find_device(c, device);
     if d.known {
         if is_uid_free(t, socket, uid) {
-            let s = table::new_slot(socket, device, year, uid);
             let p = find_place(t, socket);
-            return place_row(s, p);
+            return place_row(p, socket, device, year, uid);
         }
         return table::no_change(14);
     }

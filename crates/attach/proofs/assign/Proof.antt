@@ -27,9 +27,6 @@ find-device-requires c κs = search needs
 is-uid-free-requires : tie.Need-is-uid-free-requires
 is-uid-free-requires c κs = search needs
 
-new-slot-requires : tie.Need-new-slot-requires
-new-slot-requires c κs = search needs
-
 find-place-requires : tie.Need-find-place-requires
 find-place-requires c κs = search needs
 
@@ -40,15 +37,14 @@ returns-2 : tie.Need-returns-2
 unfolding assigned
 returns-2 c =
     rw (
-      eq-eqb _ _ (c .before .before .before .before .before .before .before .before .before .before .if1 .left),
-      ← c .before .before .before .before .before .before .before .before .before .byte-at .ensures,
-      ← c .before .before .before .before .before .before .before .before .byte-at2 .ensures,
-      ← c .before .before .before .before .before .before .before .u64-at .ensures,
-      ← c .before .before .before .before .before .before .find-device .ensures,
-      c .before .before .before .before .before .if2 .taken,
-      ← c .before .before .before .before .is-uid-free .ensures,
-      c .before .before .before .if3 .taken,
-      ← c .before .before .new-slot .ensures,
+      eq-eqb _ _ (c .before .before .before .before .before .before .before .before .before .if1 .left),
+      ← c .before .before .before .before .before .before .before .before .byte-at .ensures,
+      ← c .before .before .before .before .before .before .before .byte-at2 .ensures,
+      ← c .before .before .before .before .before .before .u64-at .ensures,
+      ← c .before .before .before .before .before .find-device .ensures,
+      c .before .before .before .before .if2 .taken,
+      ← c .before .before .before .is-uid-free .ensures,
+      c .before .before .if3 .taken,
       ← c .before .find-place .ensures .0,
     ) (c .place-row .ensures .0 _, c .place-row .ensures .1)
 
@@ -92,7 +88,6 @@ assign-spec =
     u64-at-requires
     find-device-requires
     is-uid-free-requires
-    new-slot-requires
     find-place-requires
     place-row-requires
     returns-2

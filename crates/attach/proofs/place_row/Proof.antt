@@ -8,8 +8,14 @@ use Rattle.attach.proofs.place_row.Tie as tie
 enum-known-p : tie.Need-enum-known-p
 enum-known-p c = search needs
 
+new-slot-requires : tie.Need-new-slot-requires
+new-slot-requires c κs = search needs
+
 returns : tie.Need-returns
-returns c = (λ t. rw (c .before .p .given .1), rw (c .before .p .given .1) at (c .before .before .before .pre))
+returns c = (
+  λ t. rw (c .before .before .p .given .1, c .new-slot .ensures),
+  rw (c .before .before .p .given .1) at (c .before .before .before .before .pre),
+)
 
 enum-told : tie.Need-enum-told
 enum-told c = search needs
@@ -24,4 +30,4 @@ returns-2 c = (
 )
 
 pub place-row-spec : {M : Type 1} → statement M
-place-row-spec = tie.close (tie.spec enum-known-p returns enum-told no-change-requires returns-2)
+place-row-spec = tie.close (tie.spec enum-known-p new-slot-requires returns enum-told no-change-requires returns-2)
