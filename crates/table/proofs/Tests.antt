@@ -3,6 +3,8 @@ use Prim.Native.Nat.{ℕ, zero, suc, _<_}
 use mathlib.Core.Path.{_≡_, refl, sym, ap}
 use mathlib.Core.Bool.{Bool, true, false, not, cond, _&&_, _||_}
 use native.Mathlib.Omega.{arith}
+use lib.Dec.{ltb, leb, eqb}
+use borrow.Author.Tests.{lt-ltb, le-leb, lt-leb, ne-eqb, ltb-true, ltb-false}
 use Rattle.wire.specs.Every.{every}
 use Rattle.wire.proofs.Chains.{and-true}
 
@@ -23,6 +25,19 @@ pub either : (a b c : Bool) → ((a && b) || (not a && c)) ≡ cond a b c
 either true true c = refl
 either true false c = refl
 either false b c = refl
+
+-- a number that is not above another is at most that
+pub not-above : (a b : ℕ) → not (ltb b a) ≡ leb a b
+not-above a b = go (ltb b a) refl
+  where
+    go : (t : Bool) → ltb b a ≡ t → not t ≡ leb a b
+    go true e = sym (lt-leb a b (ltb-true b a e))
+    go false e = sym (le-leb a b (ltb-false b a e))
+
+-- a number that is not above 0 is 0
+pub not-above-zero : (a : ℕ) → not (ltb 0 a) ≡ eqb a 0
+not-above-zero zero = refl
+not-above-zero (suc n) = rw (lt-ltb 0 (suc n) (omega arith), ne-eqb (suc n) 0 (λ e. omega arith))
 
 -- what holds at each index holds at every one
 pub every-of : (n : ℕ) (test : ℕ → Bool) → ((i : ℕ) → i < n → test i ≡ true) → every n test ≡ true

@@ -5,32 +5,50 @@ use crate::SLOTS;
 use crate::SOCKETS;
 use crate::Slot;
 use crate::Table;
-ghost use Prim.Native.Nat.{_<_};
+ghost use Prim.Native.Nat.{ℕ, _<_};
 ghost use mathlib.Core.Path.{_≡_};
+ghost use mathlib.Core.Bool.{false, _&&_};
+ghost use lib.Dec.{ltb};
 ghost use lib.ListN.{getD};
 ghost use Rattle.wire.specs.Every.{every};
 ghost use Rattle.catalogue.specs.Format.{described};
-ghost use Rattle.table.specs.Slots.{slotCount, paramCount, slotAt, verdictOf};
-ghost use Rattle.table.specs.Lawful.{presentAt, bitsAt, valueLawful, nothingHeld, slotLawful, slotsDiffer, lawfulAt, lawful, admission};
+ghost use Rattle.table.specs.Slots.{paramCount, verdictOf};
+ghost use Rattle.table.specs.Lawful.{presentAt, bitsAt, valueLawful, nothingHeld, slotLawful, slotsDiffer, lawful, admission};
 
-// A value by its parameter's byte.
-fn is_lawful_value(b: u8, present: bool, bits: u32) -> bool
-    ensures { λ r. ⌜ r ≡ valueLawful (described b) present bits ⌝ }
+// Which of the values are above a limit. The loops here and below look at every parameter, so that they have one exit and
+// can run on several at once; this one leaves one byte a value, so that the loop over the flags works on bytes alone.
+fn above(bits: [u32; PARAMS], limit: u32) -> [bool; PARAMS]
+    ensures { λ r. ⌜ ((p : ℕ) → p < paramCount → getD r p false ≡ ltb limit (getD bits p 0)) ⌝ }
 {
-    let p = catalogue::describe(b);
-    let held = p.readable & ((p.kind != catalogue::BOOL) | (bits <= 1));
-    (present & held) | (!present & (bits == 0))
+    let mut found = [false; PARAMS];
+    let mut i = 0;
+    while i < PARAMS {
+        found[i] = limit < bits[i];
+        i += 1;
+    }
+    found
 }
 
-// The values of a slot whose parameters have these bytes. Here and below every parameter is looked at, so that the loop has
-// one exit and can run on several at once.
+// A value by its parameter's byte, and whether its bits are above 0 and above 1.
+fn is_lawful_value(b: u8, present: bool, above0: bool, above1: bool) -> bool
+    ensures { λ r. ⌜ ((bits : ℕ) → above0 ≡ ltb 0 bits → above1 ≡ ltb 1 bits → r ≡ valueLawful (described b) present bits) ⌝ }
+{
+    let p = catalogue::describe(b);
+    let held = p.readable & ((p.kind != catalogue::BOOL) | !above1);
+    (present & held) | (!present & !above0)
+}
+
+// The values of a slot whose parameters have these bytes.
 fn are_lawful_values(bytes: [u8; PARAMS], s: Slot) -> bool
     ensures { λ r. ⌜ r ≡ every paramCount (λ p. valueLawful (described (getD bytes p 0)) (presentAt s p) (bitsAt s p)) ⌝ }
 {
+    let bits = s.bits;
+    let above0 = above(bits, 0);
+    let above1 = above(bits, 1);
     let mut lawful = true;
     let mut i = 0;
     while i < PARAMS {
-        lawful = lawful & is_lawful_value(bytes[i], s.present[i], s.bits[i]);
+        lawful = lawful & is_lawful_value(bytes[i], s.present[i], above0[i], above1[i]);
         i += 1;
     }
     lawful
@@ -88,22 +106,19 @@ fn do_slots_differ(s: Slot, t: Slot) -> bool
 }
 
 // Each slot differs from those before it.
-fn do_all_differ(t: Table) -> bool
-    ensures { λ r. ⌜ r ≡ every slotCount (λ i. every i (λ j. slotsDiffer (slotAt t j) (slotAt t i))) ⌝ }
+fn do_all_differ(a: Slot, b: Slot, c: Slot, d: Slot) -> bool
+    ensures { λ r. ⌜ r ≡ ((slotsDiffer a b && (slotsDiffer a c && slotsDiffer b c)) && ((slotsDiffer a d && slotsDiffer b d) && slotsDiffer c d)) ⌝ }
 {
-    let a = t.slots[0];
-    let b = t.slots[1];
-    let c = t.slots[2];
-    let d = t.slots[3];
     let second = do_slots_differ(a, b);
     let third = do_slots_differ(a, c) & do_slots_differ(b, c);
     let fourth = do_slots_differ(a, d) & do_slots_differ(b, d) & do_slots_differ(c, d);
     second & third & fourth
 }
 
-// Each slot is lawful by itself.
-fn are_lawful_slots(c: &[u8], t: Table) -> bool
-    ensures { λ r. ⌜ r ≡ every slotCount (λ i. slotLawful (now (c .entry)) (slotAt t i)) ⌝ }
+// Whether the table is lawful under the catalogue. The loop stands here and not in a function of its own, since a call that
+// takes the table copies it.
+pub fn is_lawful(c: &[u8], t: Table) -> bool
+    ensures { λ r. ⌜ r ≡ lawful (now (c .entry)) t ⌝ }
 {
     let mut i = 0;
     while i < SLOTS {
@@ -114,17 +129,11 @@ fn are_lawful_slots(c: &[u8], t: Table) -> bool
             return false;
         }
     }
-    true
-}
-
-// Whether the table is lawful under the catalogue.
-pub fn is_lawful(c: &[u8], t: Table) -> bool
-    ensures { λ r. ⌜ r ≡ lawful (now (c .entry)) t ⌝ }
-{
-    if are_lawful_slots(c, t) {
-        return do_all_differ(t);
-    }
-    false
+    let first = t.slots[0];
+    let second = t.slots[1];
+    let third = t.slots[2];
+    let fourth = t.slots[3];
+    do_all_differ(first, second, third, fourth)
 }
 
 // What a call for a socket is judged by first: 11, 9, 10.

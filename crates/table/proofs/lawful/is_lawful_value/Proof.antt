@@ -1,7 +1,7 @@
 -- `table::lawful::is_lawful_value` meets its contract: its tests together are the definition's.
 use borrow.Author.Needs.{needs}
 use Rattle.table.specs.Lawful.{valueLawful}
-use Rattle.table.proofs.Tests.{either}
+use Rattle.table.proofs.Tests.{either, not-above, not-above-zero}
 use Rattle.table.proofs.lawful.is_lawful_value.Statement.{statement}
 use Rattle.table.proofs.lawful.is_lawful_value.Tie as tie
 
@@ -10,7 +10,9 @@ describe-requires c κs = search needs
 
 returns : tie.Need-returns
 unfolding valueLawful
-returns c = rw (c .before .before .describe .ensures) (either (c .before .before .before .args .present) _ _)
+returns c bits above0 above1 =
+    rw (c .before .before .describe .ensures, above0, above1, not-above bits 1, not-above-zero bits)
+    (either (c .before .before .before .args .present) _ _)
 
 pub is-lawful-value-spec : {M : Type 1} → statement M
 is-lawful-value-spec = tie.close (tie.spec describe-requires returns)
