@@ -6,7 +6,7 @@
  * area of the same call. A pointer with length 0 may be null. No call keeps a pointer.
  *
  * Numbers in areas are low byte first. The calls use no heap and need nothing but
- * memcpy, memmove and memset.
+ * memcpy, memmove, memset and strlen.
  */
 #ifndef CINDER_H
 #define CINDER_H
