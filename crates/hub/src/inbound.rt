@@ -10,7 +10,7 @@ use table::Slot;
 use table::Table;
 ghost use Prim.Native.Nat.{_<_};
 ghost use mathlib.Core.Path.{_≡_};
-ghost use Rattle.table.specs.Slots.{slotCount, withSlot, changed};
+ghost use Rattle.table.specs.Slots.{slotCount, withSlot, Proper, changed};
 ghost use Rattle.hub.specs.Receive.{meaning, refusing, accepting, answering, receivedOf};
 
 // An error, the table as it was.
@@ -48,7 +48,7 @@ fn accept_row(t: Table, at: usize, s: Slot, consumed: usize) -> Received
 
 // What a change answers, where the packet is `consumed` bytes long.
 fn answer_change(t: Table, x: Change, consumed: usize) -> Received
-    requires { ⌜ x .at < slotCount ⌝ }
+    requires { ⌜ Proper x ⌝ }
     ensures { λ r. ⌜ meaning r ≡ answering (changed t x) consumed ⌝ }
 {
     let a = x.answer;

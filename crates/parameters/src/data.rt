@@ -12,7 +12,7 @@ ghost use lib.Dec.{leb, eqb};
 ghost use Rattle.wire.specs.Number.{numberAt};
 ghost use Rattle.catalogue.specs.Format.{kindBool, described};
 ghost use Rattle.catalogue.specs.Lookup.{deviceOf, BytesIn};
-ghost use Rattle.table.specs.Slots.{slotCount, paramCount, changedIf, changed, effectOf};
+ghost use Rattle.table.specs.Slots.{slotCount, paramCount, changedIf, Proper, changed, effectOf};
 ghost use Rattle.parameters.specs.Data.{width, sizeOf, allReadable, allFlags, judged, storedTo, stored, dataSized, applying};
 
 // The bytes before the first value: the map's.
@@ -182,7 +182,7 @@ fn store(c: &[u8], device: u8, bytes: [u8; PARAMS], map: u32, payload: &[u8], s:
 // The row of slot `i` with the payload's values, or the error of the payload.
 fn change_row(c: &[u8], s: Slot, i: usize, payload: &[u8]) -> Change
     requires { ⌜ i < slotCount ⌝ }
-    ensures { λ r. ⌜ ((t : Table) → effectOf (changed t r) ≡ effectOf (changedIf (judged (now (c .entry)) (s .device) (now (payload .entry))) t i (stored (now (c .entry)) (now (payload .entry)) s))) × (r .at < slotCount) ⌝ }
+    ensures { λ r. ⌜ ((t : Table) → effectOf (changed t r) ≡ effectOf (changedIf (judged (now (c .entry)) (s .device) (now (payload .entry))) t i (stored (now (c .entry)) (now (payload .entry)) s))) × Proper r ⌝ }
 {
     let device = s.device;
     let d = catalogue::find_device(c, device);
@@ -211,7 +211,7 @@ fn is_data_size(n: usize) -> bool
 // What a DEVICE_DATA payload from a socket asks of the table: 8, 15, 16, 17, 18, or the socket's row with the values that its map
 // names replaced.
 pub fn apply_data(c: &[u8], t: Table, socket: u8, payload: &[u8]) -> Change
-    ensures { λ r. ⌜ (effectOf (changed t r) ≡ applying (now (c .entry)) t socket (now (payload .entry))) × (r .at < slotCount) ⌝ }
+    ensures { λ r. ⌜ (effectOf (changed t r) ≡ applying (now (c .entry)) t socket (now (payload .entry))) × Proper r ⌝ }
 {
     if is_data_size(payload.len()) {
         let row = table::find_row(t, socket);

@@ -1,9 +1,8 @@
 -- An answer and an update are what their verdict and effect say: a caller who knows these knows which case it has.
-use Prim.Native.Nat.{ℕ, _<_}
+use Prim.Native.Nat.{ℕ}
 use mathlib.Core.Path.{_≡_, refl, sym, ap, _∙_}
 use mathlib.Core.List.{List}
-use native.Mathlib.Omega.{arith}
-use Rattle.table.specs.Slots.{slotCount, emptySlot, changedIf, changed, refusal, Verdict, accepts, refuses, verdictOf, Effect, effectOf}
+use Rattle.table.specs.Slots.{emptySlot, Proper, changedIf, changed, refusal, Verdict, accepts, refuses, verdictOf, Effect, effectOf}
 use Rattle.table.specs.Lawful.{admitted, admission}
 use Rattle.table.specs.declared.Table.{Table}
 use Rattle.table.specs.declared.Answer.{Answer}
@@ -43,8 +42,9 @@ admitted-told c t socket a case e told = sym (verdict-same a (admitted c t socke
 -- LAW: a change that is an error number keeps the table
 pub refused-change :
     (t : Table) (x : Change) (number : ℕ) → (verdictOf (x .answer) ≡ refuses number) × (x .at ≡ 0) × (x .slot ≡ emptySlot) →
-    (effectOf (changed t x) ≡ refusal t number) × (x .at < slotCount)
-refused-change t x number e = (
-  ap (λ (a : Answer). effectOf (changedIf a t (x .at) (x .slot))) (verdict-same (x .answer) (Refused number) (e .0)),
-  omega (arith, e .1),
-)
+    (effectOf (changed t x) ≡ refusal t number) × Proper x
+refused-change t x number e =
+    let refused = verdict-same (x .answer) (Refused number) (e .0) in (
+      ap (λ (a : Answer). effectOf (changedIf a t (x .at) (x .slot))) refused,
+      rw refused (e .1, e .2),
+    )

@@ -7,7 +7,7 @@ enum-told : tie.Need-enum-told
 enum-told c = search needs
 
 accept-row-requires : tie.Need-accept-row-requires
-accept-row-requires c κs = search needs
+accept-row-requires c κs = rw (c .before .enum-told .given .1) at (c .before .before .before .pre)
 
 returns : tie.Need-returns
 returns c = rw (c .before .before .enum-told .given .1) (c .accept-row .ensures)
