@@ -1,4 +1,4 @@
-// Devices come and go: an ACK gives a device its slot, a detach empties it.
+// An ACK is answered by a device's row for a slot; a detach empties a slot.
 use table::Answer;
 use table::Change;
 use table::Place;
@@ -7,7 +7,7 @@ use table::Table;
 use table::Update;
 ghost use mathlib.Core.Path.{_≡_};
 ghost use mathlib.Core.Bool.{true};
-ghost use Rattle.table.specs.Slots.{freshSlot, Within, Proper, changed, effectOf};
+ghost use Rattle.table.specs.Slots.{freshSlot, Within, WellFormed, ForPlace, changed, effectOf};
 ghost use Rattle.attach.specs.Attach.{uidElsewhere, uidFree, placeFor, placed, assigning, emptied, detaching};
 
 // An ACK's payload: type, year and eight bytes of UID.
@@ -51,10 +51,10 @@ fn find_place(t: Table, socket: u8) -> Place
     }
 }
 
-// A device's row for that slot, with no values held: 13 where there is none.
+// A device's row for the place `p`, with no values held: 13 where that is nowhere.
 fn place_row(p: Place, socket: u8, device: u8, year: u8, uid: u64) -> Change
     requires { ⌜ Within p ⌝ }
-    ensures { λ r. ⌜ ((t : Table) → effectOf (changed t r) ≡ effectOf (placed t (freshSlot true socket device year uid) p)) × Proper r ⌝ }
+    ensures { λ r. ⌜ ((t : Table) → effectOf (changed t r) ≡ effectOf (placed t (freshSlot true socket device year uid) p)) × WellFormed r × ForPlace p r ⌝ }
 {
     match p {
         Place::At(i) => {
@@ -71,7 +71,7 @@ fn place_row(p: Place, socket: u8, device: u8, year: u8, uid: u64) -> Change
 
 // What an ACK's payload from a socket asks of the table: 8, 12, 14, 13, or a row for the device with no values held.
 pub fn assign(c: &[u8], t: Table, socket: u8, payload: &[u8]) -> Change
-    ensures { λ r. ⌜ (effectOf (changed t r) ≡ assigning (now (c .entry)) t socket (now (payload .entry))) × Proper r ⌝ }
+    ensures { λ r. ⌜ (effectOf (changed t r) ≡ assigning (now (c .entry)) t socket (now (payload .entry))) × WellFormed r × ForPlace (placeFor t socket) r ⌝ }
 {
     if payload.len() != ACK_BYTES {
         return table::no_change(8);

@@ -62,7 +62,8 @@ answering u consumed = answeringBy (u .answer) (u .table) consumed
 abbrev pub payloadIn : List ℕ → ℕ → List ℕ
 payloadIn message n = take n (drop 2 message)
 
--- "LOG is accepted and changes nothing. PING and DEVICE_WRITE are for guests, not the hub" (19)
+-- "LOG is accepted and changes nothing. PING and DEVICE_WRITE are for guests, not the hub" (19). The 11, 9 and 10 of an ACK
+-- and of DEVICE_DATA say nothing new here: receivedOf has ruled them out
 unfoldable pub byType : List ℕ → Table → ℕ → ℕ → List ℕ → ℕ → Receiving
 byType c t socket kind payload consumed =
     cond (eqb kind ACK) (answering (acknowledged c t socket payload) consumed)

@@ -10,7 +10,7 @@ use table::Slot;
 use table::Table;
 ghost use Prim.Native.Nat.{_<_};
 ghost use mathlib.Core.Path.{_≡_};
-ghost use Rattle.table.specs.Slots.{slotCount, withSlot, Proper, changed};
+ghost use Rattle.table.specs.Slots.{slotCount, withSlot, WellFormed, changed};
 ghost use Rattle.hub.specs.Receive.{meaning, refusing, accepting, answering, receivedOf};
 
 // An error, the table as it was.
@@ -48,7 +48,7 @@ fn accept_row(t: Table, at: usize, s: Slot, consumed: usize) -> Received
 
 // What a change answers, where the packet is `consumed` bytes long.
 fn answer_change(t: Table, x: Change, consumed: usize) -> Received
-    requires { ⌜ Proper x ⌝ }
+    requires { ⌜ WellFormed x ⌝ }
     ensures { λ r. ⌜ meaning r ≡ answering (changed t x) consumed ⌝ }
 {
     let a = x.answer;
@@ -62,8 +62,8 @@ fn answer_change(t: Table, x: Change, consumed: usize) -> Received
 }
 
 // Receives the packet at the front of the bytes from a socket: 11, 9, 10, the packet's error, 19, then what its type asks. PING and
-// DEVICE_WRITE are for devices, not for the hub. Every answer is returned from here, since each further function on the way that
-// takes or answers a table copies it.
+// DEVICE_WRITE are for devices, not for the hub. Each answer is returned where it is known, since a table that several branches
+// lead to is copied once more.
 pub fn receive(catalogue: &[u8], table: Table, socket: u8, bytes: &[u8]) -> Received
     ensures { λ r. ⌜ meaning r ≡ receivedOf (now (catalogue .entry)) table socket (now (bytes .entry)) ⌝ }
 {

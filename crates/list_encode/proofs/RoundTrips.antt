@@ -13,7 +13,7 @@ use borrow.Author.Tests.{le-ltb, ltb-false}
 use Rattle.wire.specs.Number.{Bytes}
 use Rattle.wire.specs.Area.{over}
 use Rattle.list.specs.Limits.{listLimit, depthLimit}
-use Rattle.list.specs.Tree.{Elements, none, list}
+use Rattle.list.specs.Tree.{Elements, none}
 use Rattle.list.specs.Bytes.{listBytes}
 use Rattle.list.specs.Rows.{listRows, listStore}
 use Rattle.list.specs.Legal.{Legal}

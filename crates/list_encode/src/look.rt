@@ -1,7 +1,6 @@
 // Looking ahead for a list's code: its elements' rows come next, or a nested list's row is among as many rows as it counts.
 // Every row but the first is counted by exactly one list, so all look-aheads together take no more steps than there are rows.
 use super::row::Row;
-use super::row::row_at;
 use super::row::wide;
 use list::LIST_CODE;
 ghost use Prim.Native.Nat.{_≤_};

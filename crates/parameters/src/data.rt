@@ -12,7 +12,7 @@ ghost use lib.Dec.{leb, eqb};
 ghost use Rattle.wire.specs.Number.{numberAt};
 ghost use Rattle.catalogue.specs.Format.{kindBool, described};
 ghost use Rattle.catalogue.specs.Lookup.{deviceOf, BytesIn};
-ghost use Rattle.table.specs.Slots.{slotCount, paramCount, changedIf, Proper, changed, effectOf};
+ghost use Rattle.table.specs.Slots.{slotCount, paramCount, slotOf, changedIf, WellFormed, ForPlace, changed, effectOf};
 ghost use Rattle.parameters.specs.Data.{width, sizeOf, allReadable, allFlags, judged, storedTo, stored, dataSized, applying};
 
 // The bytes before the first value: the map's.
@@ -182,7 +182,7 @@ fn store(c: &[u8], device: u8, bytes: [u8; PARAMS], map: u32, payload: &[u8], s:
 // The row of slot `i` with the payload's values, or the error of the payload.
 fn change_row(c: &[u8], s: Slot, i: usize, payload: &[u8]) -> Change
     requires { ⌜ i < slotCount ⌝ }
-    ensures { λ r. ⌜ ((t : Table) → effectOf (changed t r) ≡ effectOf (changedIf (judged (now (c .entry)) (s .device) (now (payload .entry))) t i (stored (now (c .entry)) (now (payload .entry)) s))) × Proper r ⌝ }
+    ensures { λ r. ⌜ ((t : Table) → effectOf (changed t r) ≡ effectOf (changedIf (judged (now (c .entry)) (s .device) (now (payload .entry))) t i (stored (now (c .entry)) (now (payload .entry)) s))) × WellFormed r × ForPlace (Place.At i) r ⌝ }
 {
     let device = s.device;
     let d = catalogue::find_device(c, device);
@@ -211,12 +211,12 @@ fn is_data_size(n: usize) -> bool
 // What a DEVICE_DATA payload from a socket asks of the table: 8, 15, 16, 17, 18, or the socket's row with the values that its map
 // names replaced.
 pub fn apply_data(c: &[u8], t: Table, socket: u8, payload: &[u8]) -> Change
-    ensures { λ r. ⌜ (effectOf (changed t r) ≡ applying (now (c .entry)) t socket (now (payload .entry))) × Proper r ⌝ }
+    ensures { λ r. ⌜ (effectOf (changed t r) ≡ applying (now (c .entry)) t socket (now (payload .entry))) × WellFormed r × ForPlace (slotOf t socket) r ⌝ }
 {
     if is_data_size(payload.len()) {
-        let row = table::find_row(t, socket);
-        let p = row.place;
-        let s = row.slot;
+        let found = table::find_row(t, socket);
+        let p = found.place;
+        let s = found.slot;
         match p {
             Place::At(i) => return change_row(c, s, i, payload),
             Place::Nowhere => return table::no_change(15),

@@ -1,4 +1,4 @@
-// A device's parameters: the values of a DEVICE_DATA packet go into its slot, and one parameter is read.
+// A device's parameters: its row with a DEVICE_DATA packet's values, and the reading of one parameter.
 mod data;
 mod read;
 

@@ -8,7 +8,6 @@ use lib.ListN.{length, drop}
 use Rattle.wire.specs.Area.{over}
 use Rattle.wire.proofs.Numbers.{leBytes-bytes}
 use Rattle.list.specs.Limits.{listLimit}
-use Rattle.list.specs.Tree.{list}
 use Rattle.list.specs.Bytes.{listBytes}
 use Rattle.list.specs.Legal.{LegalElements, Legal}
 use Rattle.list.specs.Parse.{parse, good}

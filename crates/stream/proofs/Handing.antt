@@ -18,7 +18,7 @@ use Rattle.list_decode.specs.Decode.{Outcome, outcome}
 use Rattle.stream.specs.declared.Step.{Step}
 use Rattle.stream.specs.Step.{Form, stepOf}
 use Rattle.stream.specs.Series.{Lending, consumedBy, series}
-use Rattle.stream.specs.Run.{LegalRun, runBytes, StartsNone, passedOver, handedOver, behind, handing, expected}
+use Rattle.stream.specs.Run.{LegalRun, runBytes, StartsNone, passedOver, handedOver, behind, handing}
 use Rattle.stream.proofs.Reading.{Reads}
 use Rattle.stream.proofs.Steps.{step-short, step-end, step-in, series-next}
 use Rattle.stream.proofs.Runs.{some-bytes, Refuses, refused}

@@ -2,9 +2,11 @@
 use Prim.Native.Nat.{ℕ}
 use mathlib.Core.Path.{_≡_, refl, sym, ap, _∙_}
 use mathlib.Core.List.{List}
-use Rattle.table.specs.Slots.{emptySlot, Proper, changedIf, changed, refusal, Verdict, accepts, refuses, verdictOf, Effect, effectOf}
+use native.Mathlib.Omega.{arith}
+use Rattle.table.specs.Slots.{emptySlot, WellFormed, ForPlace, changedIf, changed, refusal, Verdict, accepts, refuses, verdictOf, Effect, effectOf}
 use Rattle.table.specs.Lawful.{admitted, admission}
 use Rattle.table.specs.declared.Table.{Table}
+use Rattle.table.specs.declared.Place.{Place}
 use Rattle.table.specs.declared.Answer.{Answer}
 use Rattle.table.specs.declared.Answer.the-variants.{Accepted, Refused}
 use Rattle.table.specs.declared.Change.{Change}
@@ -41,10 +43,11 @@ admitted-told c t socket a case e told = sym (verdict-same a (admitted c t socke
 
 -- LAW: a change that is an error number keeps the table
 pub refused-change :
-    (t : Table) (x : Change) (number : ℕ) → (verdictOf (x .answer) ≡ refuses number) × (x .at ≡ 0) × (x .slot ≡ emptySlot) →
-    (effectOf (changed t x) ≡ refusal t number) × Proper x
-refused-change t x number e =
+    (t : Table) (x : Change) (number : ℕ) (p : Place) → (verdictOf (x .answer) ≡ refuses number) × (x .at ≡ 0) × (x .slot ≡ emptySlot) →
+    (effectOf (changed t x) ≡ refusal t number) × WellFormed x × ForPlace p x
+refused-change t x number p e =
     let refused = verdict-same (x .answer) (Refused number) (e .0) in (
       ap (λ (a : Answer). effectOf (changedIf a t (x .at) (x .slot))) refused,
       rw refused (e .1, e .2),
+      λ accepted. absurd (let z : _≡_ {A = ℕ} 0 1 = cc in omega arith),
     )

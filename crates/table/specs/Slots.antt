@@ -120,15 +120,6 @@ changedIf (Refused number) t i s = refused t number
 abbrev pub changed : Table → Change → Update
 changed t x = changedIf (x .answer) t (x .at) (x .slot)
 
--- what else a change has: an accepted one is for one of the slots, a refused one has no row
-abbrev pub RowFor : Answer → ℕ → Slot → Type 0
-RowFor Accepted i s = i < slotCount
-RowFor (Refused number) i s = (i ≡ 0) × (s ≡ emptySlot)
-
--- the same of a change
-abbrev pub Proper : Change → Type 0
-Proper x = RowFor (x .answer) (x .at) (x .slot)
-
 -- what a call's answer says: accepted, or "Each refusal returns its number"
 pub data Verdict : Type 0 where
   accepts : Verdict
@@ -138,6 +129,19 @@ pub data Verdict : Type 0 where
 abbrev pub verdictOf : Answer → Verdict
 verdictOf Accepted = accepts
 verdictOf (Refused number) = refuses number
+
+-- what else a change has: an accepted one is for one of the slots, a refused one has index 0 and an empty row
+abbrev pub RowFor : Answer → ℕ → Slot → Type 0
+RowFor Accepted i s = i < slotCount
+RowFor (Refused number) i s = (i ≡ 0) × (s ≡ emptySlot)
+
+-- the same of a change
+abbrev pub WellFormed : Change → Type 0
+WellFormed x = RowFor (x .answer) (x .at) (x .slot)
+
+-- an accepted change is for this place
+abbrev pub ForPlace : Place → Change → Type 0
+ForPlace p x = verdictOf (x .answer) ≡ accepts → p ≡ At (x .at)
 
 -- a verdict beside the table afterwards
 pub record Effect : Type 0 where

@@ -15,8 +15,9 @@ ghost use Rattle.catalogue.specs.Format.{described};
 ghost use Rattle.table.specs.Slots.{paramCount, verdictOf};
 ghost use Rattle.table.specs.Lawful.{presentAt, bitsAt, valueLawful, nothingHeld, slotLawful, slotsDiffer, lawful, admission};
 
-// Which of the values are above a limit. The loops here and below look at every parameter, so that they have one exit and
-// can run on several at once; this one leaves one byte a value, so that the loop over the flags works on bytes alone.
+// Which of the values are above a limit. The loops over parameters, here and below, look at every one, so that they have one
+// exit and can run on several at once; this one leaves a byte for each value, so that the loop over the flags works on bytes
+// alone.
 fn above(bits: [u32; PARAMS], limit: u32) -> [bool; PARAMS]
     ensures { λ r. ⌜ ((p : ℕ) → p < paramCount → getD r p false ≡ ltb limit (getD bits p 0)) ⌝ }
 {
@@ -106,17 +107,17 @@ fn do_slots_differ(s: Slot, t: Slot) -> bool
 }
 
 // Each slot differs from those before it.
-fn do_all_differ(a: Slot, b: Slot, c: Slot, d: Slot) -> bool
-    ensures { λ r. ⌜ r ≡ ((slotsDiffer a b && (slotsDiffer a c && slotsDiffer b c)) && ((slotsDiffer a d && slotsDiffer b d) && slotsDiffer c d)) ⌝ }
+fn do_all_differ(s0: Slot, s1: Slot, s2: Slot, s3: Slot) -> bool
+    ensures { λ r. ⌜ r ≡ ((slotsDiffer s0 s1 && (slotsDiffer s0 s2 && slotsDiffer s1 s2)) && ((slotsDiffer s0 s3 && slotsDiffer s1 s3) && slotsDiffer s2 s3)) ⌝ }
 {
-    let second = do_slots_differ(a, b);
-    let third = do_slots_differ(a, c) & do_slots_differ(b, c);
-    let fourth = do_slots_differ(a, d) & do_slots_differ(b, d) & do_slots_differ(c, d);
+    let second = do_slots_differ(s0, s1);
+    let third = do_slots_differ(s0, s2) & do_slots_differ(s1, s2);
+    let fourth = do_slots_differ(s0, s3) & do_slots_differ(s1, s3) & do_slots_differ(s2, s3);
     second & third & fourth
 }
 
 // Whether the table is lawful under the catalogue. The loop stands here and not in a function of its own, since a call that
-// takes the table copies it.
+// takes the table and is not inlined copies it.
 pub fn is_lawful(c: &[u8], t: Table) -> bool
     ensures { λ r. ⌜ r ≡ lawful (now (c .entry)) t ⌝ }
 {

@@ -54,7 +54,7 @@ pub enum Answer {
 }
 
 // What a packet asks of the table: a row for the slot `at`, or an error number. It is put into the table by whoever has judged
-// the table; by itself it changes nothing. The slot is small beside a table, which is copied wherever it goes.
+// the table; by itself it changes nothing. A slot is a quarter of a table, so that less is copied.
 pub struct Change {
     pub answer: Answer,
     pub at: usize,

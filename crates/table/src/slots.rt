@@ -1,4 +1,4 @@
-// Slots: made, found and replaced.
+// Slots: made and found, and the answers that refuse.
 use crate::Answer;
 use crate::Change;
 use crate::Found;
@@ -57,8 +57,8 @@ fn is_on(s: Slot, socket: u8) -> bool
     false
 }
 
-// The row of the device on a socket. Here each slot is read at an index that the compiler knows, so that a caller copies one row
-// and not the table.
+// The row of the device on a socket. Inlined and unrolled, it reads each slot at a fixed index, so that one row is copied and
+// not the table.
 pub fn find_row(t: Table, socket: u8) -> Found
     ensures { λ r. ⌜ (r .place ≡ slotOf t socket) × Within (r .place) × (r .slot ≡ rowAt t (slotOf t socket)) ⌝ }
 {
@@ -86,8 +86,8 @@ pub fn find_row(t: Table, socket: u8) -> Found
 pub fn find_slot(t: Table, socket: u8) -> Place
     ensures { λ r. ⌜ (r ≡ slotOf t socket) × Within r ⌝ }
 {
-    let row = find_row(t, socket);
-    row.place
+    let found = find_row(t, socket);
+    found.place
 }
 
 // The lowest empty slot.
@@ -118,7 +118,7 @@ pub fn refuse(t: Table, number: u8) -> Update
     }
 }
 
-// No row for any slot, but an error number.
+// A refusal: an error number, index 0 and an empty row.
 pub fn no_change(error: u8) -> Change
     ensures { λ r. ⌜ (verdictOf (r .answer) ≡ refuses error) × (r .at ≡ 0) × (r .slot ≡ emptySlot) ⌝ }
 {

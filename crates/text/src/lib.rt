@@ -1,7 +1,7 @@
 // Text of a program's output, collected in a buffer. A piece that does not fit is left out whole; `flush_if_full` keeps room for any line.
 ghost use Prim.Native.Nat.{_+_, _<_};
 ghost use mathlib.Core.Path.{_≡_};
-ghost use mathlib.Core.List.{List, [], _∷_};
+ghost use mathlib.Core.List.{[], _∷_};
 ghost use lib.Dec.{leb};
 ghost use lib.ListN.{length};
 ghost use Rattle.io.specs.Digits.{glyph};

@@ -1,4 +1,4 @@
-// One byte, bytes that are copied, and the search for a zero. Every function answers for every input.
+// One byte, bytes that are copied, and the search for a zero. Every public function answers for every input.
 ghost use mathlib.Core.Path.{_≡_};
 ghost use Prim.Native.Nat.{_≤_, _<_};
 ghost use lib.ListN.{length, getD};
@@ -69,7 +69,7 @@ fn copy_long(dst: &mut [u8], src: &[u8])
     }
 }
 
-// The bytes of the next block, where some are left.
+// How many bytes the next block has, where some are left.
 fn block_size(left: usize) -> usize
     requires { ⌜ 0 < left ⌝ }
     ensures { λ r. ⌜ (0 < r) × (r ≤ left) × (r ≤ 4096) ⌝ }

@@ -10,7 +10,7 @@ no-change-requires : tie.Need-no-change-requires
 no-change-requires c κs = search needs
 
 returns : tie.Need-returns
-returns c = rw (ne-eqb _ _ (c .before .if1 .taken)) (refused-change _ (c .no-change .result) _ (c .no-change .ensures))
+returns c = rw (ne-eqb _ _ (c .before .if1 .taken)) (refused-change _ (c .no-change .result) _ _ (c .no-change .ensures))
 
 byte-at-requires : tie.Need-byte-at-requires
 byte-at-requires c κs = search needs
@@ -46,7 +46,7 @@ returns-2 c =
       ← c .before .before .before .is-uid-free .ensures,
       c .before .before .if3 .taken,
       ← c .before .find-place .ensures .0,
-    ) (c .place-row .ensures .0 _, c .place-row .ensures .1)
+    ) (c .place-row .ensures .0 _, c .place-row .ensures .1, c .place-row .ensures .2)
 
 no-change-requires-2 : tie.Need-no-change-requires-2
 no-change-requires-2 c κs = search needs
@@ -62,7 +62,7 @@ returns-3 c =
       c .before .before .before .if2 .taken,
       ← c .before .before .is-uid-free .ensures,
       c .before .if3 .left,
-    ) (refused-change _ (c .no-change2 .result) _ (c .no-change2 .ensures))
+    ) (refused-change _ (c .no-change2 .result) _ _ (c .no-change2 .ensures))
 
 no-change-requires-3 : tie.Need-no-change-requires-3
 no-change-requires-3 c κs = search needs
@@ -75,7 +75,7 @@ returns-4 c =
       ← c .before .before .before .before .before .byte-at .ensures,
       ← c .before .before .find-device .ensures,
       c .before .if2 .left,
-    ) (refused-change _ (c .no-change3 .result) _ (c .no-change3 .ensures))
+    ) (refused-change _ (c .no-change3 .result) _ _ (c .no-change3 .ensures))
 
 pub assign-spec : {M : Type 1} → statement M
 assign-spec =

@@ -4,7 +4,6 @@ use Prim.Native.Nat.{_≤_}
 use mathlib.Core.Path.{_≡_, refl, sym, _∙_}
 use lib.ListN.{length, drop}
 use borrow.Author.Needs.{needs}
-use Rattle.list.specs.Bytes.{common}
 use Rattle.list_encode.specs.Emit.{commonIn}
 use Rattle.list_encode.proofs.Emits.{common-none, common-short, common-turn}
 use Rattle.list_encode.proofs.look.common_in.Statement.{statement}

@@ -26,7 +26,7 @@ returns c =
     let t = c .before .before .before .before .before .before .before .before .before .before .args .t in
     let e = sym (f .0) ∙ c .before .before .p .given .1 in
     rw (← c .before .before .before .before .before .before .before .is-data-size .ensures, c .before .before .before .before .before .before .if1 .taken, e)
-    (rw (f .2 ∙ ap (rowAt t) e) at (c .change-row .ensures .0 t), c .change-row .ensures .1)
+    (rw (f .2 ∙ ap (rowAt t) e) at (c .change-row .ensures .0 t), c .change-row .ensures .1, c .change-row .ensures .2)
 
 enum-told : tie.Need-enum-told
 enum-told c = search needs
@@ -38,14 +38,14 @@ returns-2 : tie.Need-returns-2
 unfolding appliedBy
 returns-2 c =
     let e = sym (c .before .before .before .before .find-row .ensures .0) ∙ c .before .enum-told .given .1 in
-    rw (← c .before .before .before .before .before .before .is-data-size .ensures, c .before .before .before .before .before .if1 .taken, e) (refused-change _ (c .no-change .result) _ (c .no-change .ensures))
+    rw (← c .before .before .before .before .before .before .is-data-size .ensures, c .before .before .before .before .before .if1 .taken, e) (refused-change _ (c .no-change .result) _ _ (c .no-change .ensures))
 
 no-change-requires-2 : tie.Need-no-change-requires-2
 no-change-requires-2 c κs = search needs
 
 returns-3 : tie.Need-returns-3
 unfolding appliedBy
-returns-3 c = rw (← c .before .before .is-data-size .ensures, c .before .if1 .left) (refused-change _ (c .no-change2 .result) _ (c .no-change2 .ensures))
+returns-3 c = rw (← c .before .before .is-data-size .ensures, c .before .if1 .left) (refused-change _ (c .no-change2 .result) _ _ (c .no-change2 .ensures))
 
 pub apply-data-spec : {M : Type 1} → statement M
 apply-data-spec =

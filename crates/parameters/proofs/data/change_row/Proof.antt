@@ -1,6 +1,8 @@
 -- `parameters::data::change_row` meets its contract: judged first, then stored.
+use mathlib.Core.Path.{refl}
 use borrow.Author.Needs.{needs}
 use Rattle.table.specs.Slots.{emptyTable}
+use Rattle.table.specs.declared.Place.the-variants.{Nowhere}
 use Rattle.table.proofs.Answers.{refused-change}
 use Rattle.parameters.proofs.data.change_row.Statement.{statement}
 use Rattle.parameters.proofs.data.change_row.Tie as tie
@@ -33,6 +35,7 @@ returns c = (
         c .store .ensures,
       ),
   search needs,
+  λ accepted. refl,
 )
 
 enum-known-a : tie.Need-enum-known-a
@@ -42,12 +45,14 @@ no-change-requires : tie.Need-no-change-requires
 no-change-requires c κs = search needs
 
 returns-2 : tie.Need-returns-2
-returns-2 c = (
-  λ t.
-      rw (← c .before .before .before .before .judge .ensures, c .before .before .a .given .1)
-      (refused-change t (c .no-change .result) _ (c .no-change .ensures) .0),
-  refused-change emptyTable (c .no-change .result) _ (c .no-change .ensures) .1,
-)
+returns-2 c =
+    let kept = refused-change emptyTable (c .no-change .result) _ _ (c .no-change .ensures) in (
+      λ t.
+          rw (← c .before .before .before .before .judge .ensures, c .before .before .a .given .1)
+          (refused-change t (c .no-change .result) _ Nowhere (c .no-change .ensures) .0),
+      kept .1,
+      kept .2,
+    )
 
 pub change-row-spec : {M : Type 1} → statement M
 change-row-spec =

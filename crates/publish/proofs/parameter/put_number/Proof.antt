@@ -4,7 +4,6 @@ use native.Mathlib.Omega.{arith}
 use borrow.Author.Needs.{needs}
 use Rattle.wire.specs.Number.{leBytes}
 use Rattle.wire.proofs.Buffers.{put-fits}
-use Rattle.list.specs.Bytes.{number}
 use Rattle.publish.proofs.parameter.put_number.Statement.{statement}
 use Rattle.publish.proofs.parameter.put_number.Tie as tie
 

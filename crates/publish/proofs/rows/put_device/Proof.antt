@@ -1,7 +1,6 @@
 -- `publish::rows::put_device` meets its contract: the parameters, and then the front of the row before them.
 use native.Mathlib.Omega.{arith}
 use borrow.Author.Needs.{needs}
-use Rattle.publish.specs.Put.{front}
 use Rattle.publish.proofs.Pieces.{device-size, device-put}
 use Rattle.publish.proofs.rows.put_device.Statement.{statement}
 use Rattle.publish.proofs.rows.put_device.Tie as tie
