@@ -1,18 +1,21 @@
 // Lists: read into rows, and written again where they were accepted.
 use super::show;
 use list::LIST_LIMIT;
-use list::ROW_NUMBERS;
+use list::NUMBER;
+use list::ROW;
+use list::ROW_BYTES;
+use list::STORE_ROOM;
 use list_decode::Decoded;
 use list_encode::Encoded;
 
 // The most numbers of a case: one more than a list may have.
-const NUMBERS: usize = LIST_LIMIT / 4 + 1;
+const NUMBERS: usize = LIST_LIMIT / NUMBER + 1;
 
 // The rows of a list up to this many are shown.
 const SHOWN: usize = 12;
 
 // Whether the list of these rows and this store has these bytes.
-fn is_written_as(rows: &[u32], store: &[u8], bytes: &[u8]) -> bool {
+fn is_written_as(rows: &[u8], store: &[u8], bytes: &[u8]) -> bool {
     let mut buffer = [0u8; LIST_LIMIT];
     let e = list_encode::encode(rows, store, &mut buffer);
     let Encoded::Written(n) = e else {
@@ -24,14 +27,14 @@ fn is_written_as(rows: &[u32], store: &[u8], bytes: &[u8]) -> bool {
     check::same(&buffer[0..n], bytes)
 }
 
-fn written_again(rows: &[u32], store: &[u8], bytes: &[u8]) {
+fn written_again(rows: &[u8], store: &[u8], bytes: &[u8]) {
     if is_written_as(rows, store, bytes) {
         show::text(b", written again the same");
     }
 }
 
-fn contents(rows: &[u32], store: &[u8]) {
-    if rows.len() <= 3 * SHOWN {
+fn contents(rows: &[u8], store: &[u8]) {
+    if rows.len() <= ROW * SHOWN {
         show::rows(b":", rows);
         if store.len() != 0 {
             show::hex(b", store ", store);
@@ -39,7 +42,7 @@ fn contents(rows: &[u32], store: &[u8]) {
     }
 }
 
-fn accepted(bytes: &[u8], rows: &[u32], store: &[u8], used: usize) {
+fn accepted(bytes: &[u8], rows: &[u8], store: &[u8], used: usize) {
     if store.len() < used {
         return;
     }
@@ -50,8 +53,8 @@ fn accepted(bytes: &[u8], rows: &[u32], store: &[u8], used: usize) {
 
 // The list at the front of the bytes, with `used` bytes in the store.
 pub fn case(name: &[u8], bytes: &[u8], used: usize) {
-    let mut rows = [0u32; ROW_NUMBERS];
-    let mut store = [0u8; LIST_LIMIT];
+    let mut rows = [0u8; ROW_BYTES];
+    let mut store = [0u8; STORE_ROOM];
     show::text(name);
     let d = list_decode::decode(bytes, &mut rows, &mut store);
     match d {
@@ -62,13 +65,13 @@ pub fn case(name: &[u8], bytes: &[u8], used: usize) {
             let n = count as usize;
             show::number(b": bytes ", consumed);
             show::number(b" rows ", n);
-            if n <= ROW_NUMBERS / 3 {
-                accepted(bytes, &rows[0..3 * n], &store, used);
+            if n <= ROW_BYTES / ROW {
+                accepted(bytes, &rows[0..ROW * n], &store, used);
             }
         }
-        Decoded::Refused { error, offset } => {
-            show::number(b": refused ", error as usize);
-            show::number(b" at ", offset);
+        Decoded::Refused(refusal) => {
+            show::number(b": refused ", refusal.error as usize);
+            show::number(b" at ", refusal.offset);
         }
     }
     show::text(b"\n");
@@ -76,7 +79,7 @@ pub fn case(name: &[u8], bytes: &[u8], used: usize) {
 
 fn put_number(buffer: &mut [u8], i: usize, x: u32) {
     if i < NUMBERS {
-        numbers::put_u32(buffer, 4 * i, x);
+        numbers::put_u32(buffer, NUMBER * i, x);
     }
 }
 
@@ -93,9 +96,9 @@ fn numbers(name: &[u8], s: &[u32]) {
     if NUMBERS < s.len() {
         return;
     }
-    let mut buffer = [0u8; 4 * NUMBERS];
+    let mut buffer = [0u8; NUMBER * NUMBERS];
     put_numbers(&mut buffer, s);
-    case(name, &buffer[0..4 * s.len()], 0);
+    case(name, &buffer[0..NUMBER * s.len()], 0);
 }
 
 // n NetInts.
@@ -118,7 +121,7 @@ fn put_string(buffer: &mut [u8], at: usize, s: &[u8]) {
         return;
     }
     numbers::put_u32(buffer, at, s.len() as u32);
-    wire::copy_at(buffer, at + 4, s);
+    wire::copy_at(buffer, at + NUMBER, s);
 }
 
 // (91 92 93) (this is a "good list")

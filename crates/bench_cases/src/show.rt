@@ -1,5 +1,7 @@
 // Lines of output.
 use libc::STDOUT_FILENO;
+use list::NUMBER;
+use list::ROW_NUMBERS;
 
 pub fn text(s: &[u8]) {
     io::write_all(STDOUT_FILENO, s);
@@ -24,19 +26,19 @@ pub fn hex(before: &[u8], s: &[u8]) {
     }
 }
 
-// Number i of rows of three.
+// Number i of rows.
 fn row_number(i: usize, n: u32) {
-    if i != 0 && i % 3 == 0 {
+    if i != 0 && i % ROW_NUMBERS == 0 {
         text(b",");
     }
     number(b" ", n as usize);
 }
 
-pub fn rows(before: &[u8], s: &[u32]) {
+pub fn rows(before: &[u8], s: &[u8]) {
     text(before);
     let mut i = 0;
-    while i < s.len() {
-        row_number(i, s[i]);
+    while i < s.len() / NUMBER {
+        row_number(i, list::number_at(s, i));
         i += 1;
     }
 }

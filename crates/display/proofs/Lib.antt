@@ -1,4 +1,3 @@
 pub mod PacketAnswers
 pub mod ListAnswers
-pub mod Numbered
 pub mod StreamAnswers

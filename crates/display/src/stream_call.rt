@@ -1,7 +1,10 @@
 // Reading a stream of lists for C: numbers and byte areas only.
 use crate::list_call::ListResult;
+use crate::list_call::read;
+use crate::list_call::refused;
 use stream::Step;
 ghost use mathlib.Core.Path.{_≡_};
+ghost use Rattle.list_decode.specs.Decode.{outcome};
 ghost use Rattle.display.specs.StreamCall.{streamCall};
 
 // Reads the list at an offset into rows of 12 bytes each and a byte store; the stream's end consumes nothing, without an error.
@@ -12,30 +15,15 @@ pub extern "C" fn cinder_stream_next(
     rows: &mut [u8],
     store: &mut [u8],
 ) -> ListResult
-    ensures { λ r. ⌜ record { error = r .error; consumed = r .consumed; count = r .rows; offset = r .offset; rows = now (rows .exit); store = now (store .exit) } ≡ streamCall (now (bytes .entry)) offset (now (rows .entry)) (now (store .entry)) ⌝ }
+    ensures { λ r. ⌜ outcome r (now (rows .exit)) (now (store .exit)) ≡ streamCall (now (bytes .entry)) offset (now (rows .entry)) (now (store .entry)) ⌝ }
 {
-    let step = stream::next_packed(bytes, offset as usize, rows, store);
+    let step = stream::next(bytes, offset as usize, rows, store);
     match step {
         Step::List {
             consumed,
             rows: count,
-        } => ListResult {
-            error: 0,
-            consumed: consumed as u64,
-            rows: count as u64,
-            offset: 0,
-        },
-        Step::End => ListResult {
-            error: 0,
-            consumed: 0,
-            rows: 0,
-            offset: 0,
-        },
-        Step::Refused { error, offset: at } => ListResult {
-            error: error as u64,
-            consumed: 0,
-            rows: 0,
-            offset: at as u64,
-        },
+        } => read(consumed, count),
+        Step::End => read(0, 0),
+        Step::Refused(refusal) => refused(refusal),
     }
 }

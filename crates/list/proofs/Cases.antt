@@ -3,11 +3,13 @@ use Prim.Native.Nat.{ℕ}
 use mathlib.Core.Path.{_≡_, refl}
 use mathlib.Core.List.{List, [], _∷_, _++_}
 use Rattle.wire.specs.Zero.{hasZero}
+use Rattle.wire.specs.Equal.{same}
 use Rattle.list.specs.Kind.{kindOf}
 use Rattle.list.specs.Limits.{listLimit}
 use Rattle.list.specs.Tree.{Elements, int, str, none, value, list}
 use Rattle.list.specs.Bytes.{number, codeFor, listBytes}
 use Rattle.list.specs.Rows.{rowCount}
+use Rattle.list.specs.Refusal.{refusal}
 use Rattle.list.specs.Parse.{good, bad, itemFault, stringAt, blobAt, valueAt, typedAt, isListCode, codedAt, mixedAt, listAt, parse}
 
 -- "2 3 5 7 11 13 17 19"
@@ -44,8 +46,8 @@ pub cases :
     ((parse listLimit primeBytes ≡ good primes 40) × (listBytes primes ≡ primeBytes) × (rowCount primes ≡ 9))
     × ((parse listLimit twoListBytes ≡ good twoLists 72) × (listBytes twoLists ≡ twoListBytes) × (rowCount twoLists ≡ 10))
     × (parse listLimit (number 256 ++ number 0) ≡ good none 8)
-    × (parse listLimit (number 257 ++ number 0) ≡ bad 24 0)
-    × (parse listLimit (number 256 ++ number 1 ++ number 1 ++ number 5) ≡ bad 24 0)
-    × (parse listLimit (number 512 ++ number 0) ≡ bad 22 0)
-unfolding hasZero kindOf codeFor listBytes itemFault stringAt blobAt valueAt typedAt isListCode codedAt mixedAt listAt parse
+    × (parse listLimit (number 257 ++ number 0) ≡ bad (refusal 24 0))
+    × (parse listLimit (number 256 ++ number 1 ++ number 1 ++ number 5) ≡ bad (refusal 24 0))
+    × (parse listLimit (number 512 ++ number 0) ≡ bad (refusal 22 0))
+unfolding hasZero same kindOf codeFor listBytes itemFault stringAt blobAt valueAt typedAt isListCode codedAt mixedAt listAt parse
 cases = ((refl, refl, refl), (refl, refl, refl), refl, refl, refl, refl)

@@ -7,15 +7,19 @@ use native.Mathlib.Omega.{arith}
 use native.Mathlib.Nat.{add-zero}
 use lib.Dec.{eqb}
 use lib.ListN.{length, take, drop, length-append}
-use lib.Seq.{take-at, getD-at}
-use borrow.Author.Tests.{eq-eqb, ne-eqb, lt-leb}
+use lib.Seq.{take-at, drop-at}
+use borrow.Author.Tests.{eq-eqb, le-ltb, lt-leb}
 use Rattle.wire.specs.Zero.{hasZero}
+use Rattle.wire.proofs.Equal.{same-refl}
 use Rattle.list.specs.declared.Kind.{Kind}
+use Rattle.list.specs.Limits.{depthLimit}
 use Rattle.list.specs.Kind.{codeOf, kindOf, listCode, typedCode}
 use Rattle.list.specs.Tree.{Value, Elements, int, vocab, float, str, blob, none, value, list, kind, count}
 use Rattle.list.specs.Bytes.{number, stringBytes, blobBytes, valueBytes, elementBytes, listCodeOf, listBytes}
 use Rattle.list.specs.Legal.{NoZero, LegalValue, LegalElements, Legal}
-use Rattle.list.specs.Parse.{Parsed, good, bad, closed, isListCode, itemFault, stringAt, blobAt, valueAt, typedAt, codedAt, mixedAt, elementsAt, listAt, parse}
+use Rattle.list.specs.Refusal.{refusal}
+use Rattle.list.specs.Strings.{terminator, stringLength, stringSize, closed}
+use Rattle.list.specs.Parse.{Parsed, good, bad, isListCode, itemFault, stringAt, blobAt, valueAt, typedAt, codedAt, mixedAt, elementsAt, listAt, parse}
 use Rattle.list.proofs.Codes.{kind-of-code, kind-of-typed, kind-of-list, kind-no-list, typed-no-list, code-low, code-is, code-good, AllKind, CodeIs, mixed, typed}
 use Rattle.list.proofs.RowBound.{value-size}
 use Rattle.list.proofs.Items.{Stands, stands-front, stands-length, stands-behind, stands-take, word-of, fault-none}
@@ -27,13 +31,13 @@ no-zero [] h = refl
 no-zero (zero ∷ bs) h = absurd (h .0 refl)
 no-zero (suc b ∷ bs) h = no-zero bs (h .1)
 
-closed-string : (bs : List ℕ) → NoZero bs → closed (bs ++ (0 ∷ [])) ≡ true
+closed-string : (bs : List ℕ) → NoZero bs → closed (bs ++ terminator) ≡ true
 closed-string bs h =
-    let e : length (bs ++ (0 ∷ [])) - 1 ≡ length bs = omega (arith, length-append bs (0 ∷ [])) in
-    rw (e, take-at bs (0 ∷ []) (length bs) refl, no-zero bs h, getD-at bs 0 [] 1 (length bs) refl)
+    let e : stringSize (length (bs ++ terminator)) ≡ length bs = omega (arith, length-append bs terminator) in
+    rw (e, take-at bs terminator (length bs) refl, no-zero bs h, drop-at bs terminator (length bs) refl, same-refl terminator)
 
 -- every element has a byte, so a count is no more than the bytes
-count-le : (code : ℕ) (es : Elements) → count es ≤ length (elementBytes code es)
+pub count-le : (code : ℕ) (es : Elements) → count es ≤ length (elementBytes code es)
 count-le code none = omega arith
 count-le code (value v es) = simp length-append (omega (arith, count-le code es, value-size v))
 count-le code (list inner es) = simp length-append (omega (arith, count-le code es))
@@ -48,17 +52,17 @@ module _ (limit : ℕ) (small : limit < 2 ^ 31) (s : List ℕ) where
       → stringAt limit s at ≡ good (str bs) (at + length (stringBytes bs))
   unfolding stringAt
   string-ok bs at rest z h f =
-      let n : ℕ = suc (length bs) in
-      let run : List ℕ = bs ++ (0 ∷ []) in
-      let len : length run ≡ n = omega (arith, length-append bs (0 ∷ [])) in
+      let n : ℕ = stringLength (length bs) in
+      let run : List ℕ = bs ++ terminator in
+      let len : length run ≡ n = omega (arith, length-append bs terminator) in
       let h₄ : Stands s (at + 4) (run ++ rest) = stands-behind s at (number n) (run ++ rest) h in
       let t : take n (drop (at + 4) s) ≡ run = ap (λ (k : ℕ). take k (drop (at + 4) s)) (sym len) ∙ stands-take s (at + 4) run rest h₄ in
-      let e : n - 1 ≡ length bs = omega arith in
-      let u : take (n - 1) (drop (at + 4) s) ≡ bs = rw e (stands-take s (at + 4) bs (0 ∷ rest) (rw append-assoc at h₄)) in
+      let e : stringSize n ≡ length bs = omega arith in
+      let u : take (stringSize n) (drop (at + 4) s) ≡ bs = rw e (stands-take s (at + 4) bs (terminator ++ rest) (rw append-assoc at h₄)) in
       rw (
         item at (number n) (run ++ rest) h (omega arith),
         word-of s at n (run ++ rest) (omega arith) h,
-        ne-eqb n 0 (λ e. omega arith),
+        le-ltb n (length terminator) (omega arith),
         lt-leb 2147483648 n (omega arith),
         fault-none limit s (at + 4) n (omega arith) (omega (arith, stands-length s (at + 4) run rest h₄)),
         t,
@@ -148,7 +152,7 @@ module _ (limit : ℕ) (small : limit < 2 ^ 31) (s : List ℕ) where
       → Stands s at (number code ++ (number (count es) ++ (elementBytes code es ++ rest))) → at + (8 + length (elementBytes code es)) ≤ limit
       → (Stands s (at + 8) (elementBytes code es ++ rest)
       → elementsAt (listAt d limit s) limit s (kindOf (code - listCode)) (count es) (at + 8) ≡ good es (at + 8 + length (elementBytes code es)))
-      → listAt (suc d) limit s at code ≡ cond (eqb code (listCodeOf es)) (good es (at + 8 + length (elementBytes code es))) (bad 24 at)
+      → listAt (suc d) limit s at code ≡ cond (eqb code (listCodeOf es)) (good es (at + 8 + length (elementBytes code es))) (bad (refusal 24 at))
   unfolding listAt
   body-ok d code es at rest h f go =
       let x : List ℕ = elementBytes code es ++ rest in
@@ -210,7 +214,7 @@ module _ (limit : ℕ) (small : limit < 2 ^ 31) (s : List ℕ) where
 
   -- a list code at the front
   pub front-ok : (code : ℕ) (rest : List ℕ) → isListCode code ≡ true → code < 2 ^ 32 → Stands s 0 (number code ++ rest) → 4 ≤ limit
-      → parse limit s ≡ listAt 8 limit s 0 code
+      → parse limit s ≡ listAt depthLimit limit s 0 code
   unfolding parse
   front-ok code rest c small-code h f = rw (item 0 (number code) rest h f, word-of s 0 code rest small-code h, c)
 
@@ -221,5 +225,5 @@ complete limit es rest small l =
     let s : List ℕ = listBytes es ++ rest in
     let c : ℕ = listCodeOf es in
     front-ok limit small s c (number (count es) ++ (elementBytes c es ++ rest)) (code-good es .0) (code-good es .1) (stands-front s) (omega arith)
-    ∙ list-ok limit small s 7 es 0 rest (l .0) (mixed-ok limit small s es 7 (l .0)) (stands-front s) (omega arith)
+    ∙ list-ok limit small s (depthLimit - 1) es 0 rest (l .0) (mixed-ok limit small s es (depthLimit - 1) (l .0)) (stands-front s) (omega arith)
     ∙ ap (good es) (omega arith)

@@ -7,3 +7,5 @@ pub mod Same
 pub mod OneImage
 pub mod TypedRun
 pub mod Cases
+pub mod RowBytes
+pub mod Cut

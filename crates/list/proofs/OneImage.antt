@@ -1,5 +1,5 @@
 -- Each list has one image: bytes that start with a legal list start with no other, and its elements behind another code are refused.
-use Prim.Native.Nat.{ℕ, _+_, _^_, _≤_, _<_}
+use Prim.Native.Nat.{ℕ, _+_, _-_, _^_, _≤_, _<_}
 use mathlib.Core.Path.{_≡_, sym, ap, _∙_}
 use mathlib.Core.Bool.{false}
 use mathlib.Core.List.{List, [], _++_, append-nil}
@@ -8,10 +8,12 @@ use lib.Dec.{eqb}
 use lib.ListN.{length}
 use borrow.Author.Tests.{ne-eqb}
 use Rattle.list.specs.declared.Kind.{Kind}
+use Rattle.list.specs.Limits.{depthLimit}
 use Rattle.list.specs.Kind.{listCode, typedCode}
 use Rattle.list.specs.Tree.{Value, Elements, none, value, count}
 use Rattle.list.specs.Bytes.{number, elementBytes, listCodeOf, listBytes}
 use Rattle.list.specs.Legal.{LegalElements, Legal}
+use Rattle.list.specs.Refusal.{refusal}
 use Rattle.list.specs.Parse.{good, bad, typedAt, parse}
 use Rattle.list.proofs.Codes.{kind-of-typed, kind-of-list, code-low, code-all, code-none, typed-is-code, mixed-is-code, AllKind}
 use Rattle.list.proofs.Items.{stands-front}
@@ -32,24 +34,25 @@ no-list-opens limit es fs x small l m h = same-front limit es fs x [] small l m 
 
 -- "Taking 256 with equal kinds as legal: two images for one list"
 pub one-kind-refused : (limit : ℕ) (k : Kind) (v : Value) (es : Elements) (rest : List ℕ) → limit < 2 ^ 31
-    → AllKind k (value v es) → LegalElements 7 (value v es) → 8 + length (elementBytes listCode (value v es)) ≤ limit
-    → parse limit (number listCode ++ (number (count (value v es)) ++ (elementBytes listCode (value v es) ++ rest))) ≡ bad 24 0
+    → AllKind k (value v es) → LegalElements (depthLimit - 1) (value v es) → 8 + length (elementBytes listCode (value v es)) ≤ limit
+    → parse limit (number listCode ++ (number (count (value v es)) ++ (elementBytes listCode (value v es) ++ rest))) ≡ bad (refusal 24 0)
 one-kind-refused limit k v es rest small a l f =
     let t : Elements = value v es in
     let x : List ℕ = number (count t) ++ (elementBytes listCode t ++ rest) in
     let s : List ℕ = number listCode ++ x in
     let n : eqb listCode (listCodeOf t) ≡ false = ne-eqb listCode (listCodeOf t) (λ e. omega (arith, code-low k .0, code-all k v es a)) in
     front-ok limit small s listCode x mixed-is-code (omega arith) (stands-front s) (omega arith)
-    ∙ body-ok limit small s 7 listCode t 0 rest (stands-front s) (omega arith) (λ h. rw kind-of-list (mixed-ok limit small s t 7 l 8 rest h (omega arith)))
+    ∙ body-ok limit small s (depthLimit - 1) listCode t 0 rest (stands-front s) (omega arith)
+    (λ h. rw kind-of-list (mixed-ok limit small s t (depthLimit - 1) l 8 rest h (omega arith)))
     ∙ rw n
 
 -- "typed list of 0 elements"
-pub empty-typed-refused : (limit : ℕ) (k : Kind) (rest : List ℕ) → limit < 2 ^ 31 → 8 ≤ limit → parse limit (number (typedCode k) ++ (number 0 ++ rest)) ≡ bad 24 0
+pub empty-typed-refused : (limit : ℕ) (k : Kind) (rest : List ℕ) → limit < 2 ^ 31 → 8 ≤ limit → parse limit (number (typedCode k) ++ (number 0 ++ rest)) ≡ bad (refusal 24 0)
 unfolding typedAt
 empty-typed-refused limit k rest small f =
     let c : ℕ = typedCode k in
     let s : List ℕ = number c ++ (number 0 ++ rest) in
     let n : eqb c (listCodeOf none) ≡ false = ne-eqb c (listCodeOf none) (λ e. omega (arith, code-low k .0, code-none)) in
     front-ok limit small s c (number 0 ++ rest) (typed-is-code k) (omega (arith, code-low k .1)) (stands-front s) (omega arith)
-    ∙ body-ok limit small s 7 c none 0 rest (stands-front s) (omega arith) (λ h. rw (kind-of-typed k))
+    ∙ body-ok limit small s (depthLimit - 1) c none 0 rest (stands-front s) (omega arith) (λ h. rw (kind-of-typed k))
     ∙ rw n

@@ -3,7 +3,7 @@ use Prim.Native.Nat.{ℕ, _+_, _*_, _≤_}
 use mathlib.Core.Path.{_≡_, refl}
 use native.Mathlib.Omega.{arith}
 use lib.ListN.{length, length-append}
-use Rattle.list.specs.Limits.{listLimit}
+use Rattle.list.specs.Limits.{listLimit, rowRoom, rowNumbers}
 use Rattle.list.specs.Tree.{Value, Elements, int, vocab, float, str, blob, none, value, list}
 use Rattle.list.specs.Bytes.{valueBytes, elementBytes, listCodeOf, listBytes}
 use Rattle.list.specs.Legal.{Legal}
@@ -30,22 +30,23 @@ list-size es = omega (arith, elements-size (listCodeOf es) es)
 pub row-bound : (es : Elements) → Legal listLimit es → rowCount es ≤ 1023
 row-bound es l = omega (arith, list-size es)
 
--- the store bytes are no more than the bytes, so at most 4,096
-pub store-fits : (es : Elements) → length (listStore es) ≤ length (listBytes es)
-store-fits es = omega (arith, list-size es)
+-- the room that 20 asks for rows is enough for every legal list
+pub rows-fit : (es : Elements) → Legal listLimit es → rowNumbers * rowCount es ≤ rowRoom
+rows-fit es l = omega (arith, list-size es)
 
+-- the store bytes are no more than the bytes, so within the limit
 pub store-bound : (limit : ℕ) (es : Elements) → Legal limit es → length (listStore es) ≤ limit
 store-bound limit es l = omega (arith, list-size es)
 
 -- rows are of three numbers
-value-row : (used : ℕ) (v : Value) → length (valueRow used v) ≡ 3
+pub value-row : (used : ℕ) (v : Value) → length (valueRow used v) ≡ 3
 value-row used (int n) = refl
 value-row used (vocab n) = refl
 value-row used (float low high) = refl
 value-row used (str bs) = refl
 value-row used (blob bs) = refl
 
-element-rows : (used : ℕ) (es : Elements) → 3 * elementCount es ≡ length (elementRows used es)
+pub element-rows : (used : ℕ) (es : Elements) → 3 * elementCount es ≡ length (elementRows used es)
 element-rows used none = refl
 element-rows used (value v es) = simp length-append (omega (arith, value-row used v, element-rows (used + length (valueStore v)) es))
 element-rows used (list inner es) = simp length-append (omega (arith, element-rows used inner, element-rows (used + length (elementStore inner)) es))

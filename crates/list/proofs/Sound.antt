@@ -5,12 +5,14 @@ use mathlib.Core.Path.{_≡_, refl, sym, ap, _∙_}
 use mathlib.Core.Bool.{Bool, true, false, not, cond, _&&_, _||_}
 use mathlib.Core.List.{List, [], _∷_, _++_, append-assoc}
 use native.Mathlib.Omega.{arith}
-use lib.Dec.{eqb, leb}
-use lib.ListN.{length, take, drop, getD, length-append, length-drop, take-append-drop}
-use lib.Seq.{take-suc, take-all, take-take, drop-drop, length-take-le}
-use borrow.Author.Tests.{eqb-true, eqb-false, ne-eqb, not-true}
+use lib.Dec.{eqb, ltb, leb}
+use lib.ListN.{length, take, drop, length-append, length-drop, take-append-drop}
+use lib.Seq.{take-take, drop-drop, length-take-le}
+use borrow.Author.Tests.{eqb-true, ltb-false, ne-eqb, not-true}
 use Rattle.wire.specs.Number.{Bytes}
 use Rattle.wire.specs.Zero.{hasZero}
+use Rattle.wire.specs.Equal.{same}
+use Rattle.wire.proofs.Equal.{same-equal}
 use Rattle.wire.proofs.Chains.{and-left, and-right}
 use Rattle.wire.proofs.Numbers.{bytes-of-value, value-fits}
 use Rattle.list.specs.declared.Kind.{Kind}
@@ -22,7 +24,10 @@ use Rattle.list.specs.Kind.{codeOf, kindOf, listCode}
 use Rattle.list.specs.Tree.{Value, Elements, str, none, value, list, kind, count}
 use Rattle.list.specs.Bytes.{number, stringBytes, valueBytes, elementCode, elementBytes, listCodeOf, listBytes}
 use Rattle.list.specs.Legal.{NoZero, LegalValue, LegalElements, Legal}
-use Rattle.list.specs.Parse.{Parsed, good, bad, andThen, afterItem, word, negative, closed, itemFault, stringAt, blobAt, valueAt, typedAt, isListCode, codedValue, codedAt, mixedAt, elementsAt, listAt, parse}
+use Rattle.list.specs.Refusal.{Refusal, refusal}
+use Rattle.list.specs.Strings.{terminator, stringLength, stringSize, negative, badLength, closed}
+use Rattle.list.specs.Parse.{Parsed, good, bad, andThen, afterItem, word, itemFault}
+use Rattle.list.specs.Parse.{stringAt, blobAt, valueAt, typedAt, isListCode, codedValue, codedAt, mixedAt, elementsAt, listAt, parse}
 use Rattle.list.proofs.Codes.{code-of-kind}
 use Rattle.list.proofs.Items.{bytes-take, bytes-drop, fault-fits}
 
@@ -33,15 +38,12 @@ zero-none [] h = tt
 zero-none (zero ∷ bs) h = absurd (let z : _≡_ {A = ℕ} 0 1 = cc in omega arith)
 zero-none (suc b ∷ bs) h = (λ e. omega arith, zero-none bs h)
 
-closed-is : (m : ℕ) (run : List ℕ) → length run ≡ suc m → closed run ≡ true → NoZero (take m run) × (run ≡ take m run ++ (0 ∷ []))
-closed-is m run len h =
-    let e : length run - 1 ≡ m = omega arith in
-    let h₁ : (not (hasZero (take m run)) && eqb (getD run m 1) 0) ≡ true = rw e at h in
-    let z : hasZero (take m run) ≡ false = not-true (hasZero (take m run)) (and-left (not (hasZero (take m run))) (eqb (getD run m 1) 0) h₁) in
-    let l : getD run m 1 ≡ 0 = eqb-true (getD run m 1) 0 (and-right (not (hasZero (take m run))) (eqb (getD run m 1) 0) h₁) in (
-      zero-none (take m run) z,
-      sym (take-all (suc m) run (omega arith)) ∙ take-suc run m 1 (omega arith) ∙ ap (λ (b : ℕ). take m run ++ (b ∷ [])) l,
-    )
+closed-is : (m : ℕ) (run : List ℕ) → stringSize (length run) ≡ m → closed run ≡ true → NoZero (take m run) × (run ≡ take m run ++ terminator)
+closed-is m run e h =
+    let h₁ : (not (hasZero (take m run)) && same (drop m run) terminator) ≡ true = rw e at h in
+    let z : hasZero (take m run) ≡ false = not-true (hasZero (take m run)) (and-left (not (hasZero (take m run))) (same (drop m run) terminator) h₁) in
+    let l : drop m run ≡ terminator = same-equal (drop m run) terminator (and-right (not (hasZero (take m run))) (same (drop m run) terminator) h₁) in
+    (zero-none (take m run) z, sym (take-append-drop m run) ∙ ap (λ (bs : List ℕ). take m run ++ bs) l)
 
 or-left : (a b : Bool) → (a || b) ≡ false → a ≡ false
 or-left true b h = h
@@ -69,17 +71,35 @@ code-typed : (code : ℕ) (k : Kind) → kindOf (code - listCode) ≡ Is k → e
 unfolding kindOf
 code-typed code k e = ne-eqb code listCode (λ q. let y : Unknown ≡ Is k = rw q at e in let z : _≡_ {A = ℕ} 0 1 = cc in omega arith)
 
+-- a refusal has a number of list reading, and its offset is not past the end
+pub record SaneRefusal (s : List ℕ) (r : Refusal) : Type 0 where
+  pub low : 20 < r .number
+  pub high : r .number < 32
+  pub inside : r .offset ≤ length s
+
+fault-number : (limit : ℕ) (s : List ℕ) (at n fault : ℕ) → itemFault limit s at n ≡ suc fault → (20 < suc fault) × (suc fault < 32)
+unfolding itemFault
+fault-number limit s at n fault = go (ltb limit (at + n)) (ltb (length s) (at + n))
+  where
+    go : (a b : Bool) → cond {A = ℕ} a 28 (cond b 21 0) ≡ suc fault → (20 < suc fault) × (suc fault < 32)
+    go true b h = (omega arith, omega arith)
+    go false true h = (omega arith, omega arith)
+    go false false h = absurd (omega arith)
+
 module _ (limit : ℕ) (s : List ℕ) where
+  sane : (n at : ℕ) → at ≤ length s → (20 < n) × (n < 32) → SaneRefusal s (refusal n at)
+  sane n at h b = record { low = b .0; high = b .1; inside = h }
+
   -- from `at` to `next`, within the limit and the bytes, stands xs
   record Span (at : ℕ) (xs : List ℕ) (next : ℕ) : Type 0 where
     fits : next ≤ limit
     inside : next ≤ length s
     spells : Bytes s → drop at s ≡ xs ++ drop next s
 
-  -- what holds of an answer: G of what was read and the offset behind it; a fault is not past the end
+  -- what holds of an answer: G of what was read and the offset behind it; a refusal is sane
   abbrev Judged : {A : Type 0} → (A → ℕ → Type 0) → Parsed A → Type 0
   Judged G (good a next) = G a next
-  Judged G (bad fault offset) = offset ≤ length s
+  Judged G (bad r) = SaneRefusal s r
 
   after-item : {A : Type 0} (G : A → ℕ → Type 0) (at n : ℕ) (p : Parsed A) → at ≤ length s
       → (at + n ≤ limit → at + n ≤ length s → Judged G p) → Judged G (afterItem (itemFault limit s at n) at p)
@@ -87,7 +107,7 @@ module _ (limit : ℕ) (s : List ℕ) where
     where
       by : (fault : ℕ) → itemFault limit s at n ≡ fault → Judged G (afterItem fault at p)
       by zero e = let f = fault-fits limit s at n e in go (f .0) (f .1)
-      by (suc fault) e = h
+      by (suc fault) e = let n = fault-number limit s at n fault e in record { low = n .0; high = n .1; inside = h }
 
   test : {A : Type 0} (G : A → ℕ → Type 0) (b : Bool) (p q : Parsed A) → (b ≡ true → Judged G p) → (b ≡ false → Judged G q) → Judged G (cond b p q)
   test G true p q x y = x refl
@@ -96,11 +116,11 @@ module _ (limit : ℕ) (s : List ℕ) where
   next-step : {A B : Type 0} (G : A → ℕ → Type 0) (H : B → ℕ → Type 0) (p : Parsed A) (go : A → ℕ → Parsed B) → Judged G p
       → ((a : A) (next : ℕ) → G a next → Judged H (go a next)) → Judged H (andThen p go)
   next-step G H (good a next) go h f = f a next h
-  next-step G H (bad fault offset) go h f = h
+  next-step G H (bad r) go h f = h
 
   weaken : {A : Type 0} (G H : A → ℕ → Type 0) (p : Parsed A) → Judged G p → ((a : A) (next : ℕ) → G a next → H a next) → Judged H p
   weaken G H (good a next) h f = f a next h
-  weaken G H (bad fault offset) h f = h
+  weaken G H (bad r) h f = h
 
   -- spans one behind the other
   join : (at mid next : ℕ) (xs ys : List ℕ) → Span at xs mid → Span mid ys next → Span at (xs ++ ys) next
@@ -142,23 +162,23 @@ module _ (limit : ℕ) (s : List ℕ) where
     legal : Bytes s → LegalValue v
     span : Span at (valueBytes v) next
 
-  is-string : (at n : ℕ) → eqb n 0 ≡ false → Span at (number n) (at + 4) → at + 4 + n ≤ limit → at + 4 + n ≤ length s
-      → closed (take n (drop (at + 4) s)) ≡ true → IsValue Str at (str (take (n - 1) (drop (at + 4) s))) (at + 4 + n)
-  is-string at n some a f i c =
+  is-string : (at n : ℕ) → badLength n ≡ false → Span at (number n) (at + 4) → at + 4 + n ≤ limit → at + 4 + n ≤ length s
+      → closed (take n (drop (at + 4) s)) ≡ true → IsValue Str at (str (take (stringSize n) (drop (at + 4) s))) (at + 4 + n)
+  is-string at n fine a f i c =
+      let m : ℕ = stringSize n in
       let all-bytes : List ℕ = drop (at + 4) s in
-      let bs : List ℕ = take (n - 1) all-bytes in
-      let nz : n ≡ 0 → ⊥ = eqb-false n 0 some in
-      let e : suc (n - 1) ≡ n = omega arith in
+      let bs : List ℕ = take m all-bytes in
+      let some : length terminator ≤ n = ltb-false n (length terminator) (or-left (ltb n (length terminator)) (negative n) fine) in
       let len : length (take n all-bytes) ≡ n = run-length (at + 4) n i in
-      let r = closed-is (n - 1) (take n all-bytes) (len ∙ sym e) c in
-      let t : take (n - 1) (take n all-bytes) ≡ bs = take-take (n - 1) n all-bytes (omega arith) in
-      let len₁ : suc (length bs) ≡ n = ap suc (length-take-le (n - 1) all-bytes (omega (arith, length-drop (at + 4) s))) ∙ e in
-      let whole : take n all-bytes ≡ bs ++ (0 ∷ []) = r .1 ∙ ap (λ (l : List ℕ). l ++ (0 ∷ [])) t in
+      let r = closed-is m (take n all-bytes) (ap stringSize len) c in
+      let t : take m (take n all-bytes) ≡ bs = take-take m n all-bytes (omega arith) in
+      let len₁ : stringLength (length bs) ≡ n = omega (arith, length-take-le m all-bytes (omega (arith, length-drop (at + 4) s))) in
+      let whole : take n all-bytes ≡ bs ++ terminator = r .1 ∙ ap (λ (l : List ℕ). l ++ terminator) t in
       record {
         of-kind = refl;
-        legal = λ all. (bytes-take (n - 1) all-bytes (bytes-drop (at + 4) s all), rw t at (r .0));
+        legal = λ all. (bytes-take m all-bytes (bytes-drop (at + 4) s all), rw t at (r .0));
         span = spells-as at (at + 4 + n) (number n ++ take n all-bytes) (stringBytes bs)
-            (ap (λ (k : ℕ). number k ++ take n all-bytes) (sym len₁) ∙ ap (λ (l : List ℕ). number (suc (length bs)) ++ l) whole)
+            (ap (λ (k : ℕ). number k ++ take n all-bytes) (sym len₁) ∙ ap (λ (l : List ℕ). number (stringLength (length bs)) ++ l) whole)
             (join at (at + 4) (at + 4 + n) (number n) (take n all-bytes) a (run (at + 4) n f i));
       }
 
@@ -166,17 +186,17 @@ module _ (limit : ℕ) (s : List ℕ) where
   unfolding stringAt
   string-read at h =
       after-item _ at 4 _ h (λ f₄ i₄.
-      test _ (eqb (word s at) 0 || negative (word s at)) _ _ (λ e. h) (λ e.
+      test _ (badLength (word s at)) _ _ (λ e. sane 25 at h (omega arith)) (λ e.
       after-item _ (at + 4) (word s at) _ i₄ (λ f i.
       test _ (closed (take (word s at) (drop (at + 4) s))) _ _
-      (λ c. is-string at (word s at) (or-left (eqb (word s at) 0) (negative (word s at)) e) (a-number at f₄ i₄) f i c)
-      (λ c. i₄))))
+      (λ c. is-string at (word s at) e (a-number at f₄ i₄) f i c)
+      (λ c. sane 25 (at + 4) i₄ (omega arith)))))
 
   blob-read : (at : ℕ) → at ≤ length s → Judged (IsValue Blob at) (blobAt limit s at)
   unfolding blobAt
   blob-read at h =
       after-item _ at 4 _ h (λ f₄ i₄.
-      test _ (negative (word s at)) _ _ (λ e. h) (λ e.
+      test _ (negative (word s at)) _ _ (λ e. sane 25 at h (omega arith)) (λ e.
       after-item _ (at + 4) (word s at) _ i₄ (λ f i. record {
         of-kind = refl;
         legal = λ all. bytes-take (word s at) (drop (at + 4) s) (bytes-drop (at + 4) s all);
@@ -256,7 +276,7 @@ module _ (limit : ℕ) (s : List ℕ) where
 
   coded-value : (d at : ℕ) (found : KindFound) → kindOf (word s at) ≡ found → at + 4 ≤ limit → at + 4 ≤ length s → at ≤ length s
       → Judged (IsElement d at) (codedValue limit s at found)
-  coded-value d at Unknown e f i h = h
+  coded-value d at Unknown e f i h = sane 26 at h (omega arith)
   coded-value d at (Is k) e f i h =
       next-step _ _ (valueAt limit s (at + 4) k) _ (value-read k (at + 4) i) (λ v mid a.
       let c : word s at ≡ codeOf (kind v) = code-of-kind (word s at) k e ∙ ap codeOf (sym (a .of-kind)) in
@@ -291,11 +311,11 @@ module _ (limit : ℕ) (s : List ℕ) where
 
   list-read : (d : ℕ) → ReadsLists d (listAt d limit s)
   unfolding listAt
-  list-read zero at code c f i = omega arith
+  list-read zero at code c f i = sane 27 at (omega arith) (omega arith)
   list-read (suc d) at code c f i =
       let e₈ : at + 4 + 4 ≡ at + 8 = omega arith in
       after-item _ (at + 4) 4 _ i (λ f₄ i₄.
-      test _ (negative (word s (at + 4))) _ _ (λ e. i) (λ e.
+      test _ (negative (word s (at + 4))) _ _ (λ e. sane 23 (at + 4) i (omega arith)) (λ e.
       next-step _ _ (elementsAt (listAt d limit s) limit s (kindOf (code - listCode)) (word s (at + 4)) (at + 8)) _
       (elements-read d (listAt d limit s) (list-read d) code c (kindOf (code - listCode)) refl (word s (at + 4)) (at + 8) (omega arith) (omega arith))
       (λ es next r. test _ (eqb code (listCodeOf es)) _ _
@@ -305,11 +325,11 @@ module _ (limit : ℕ) (s : List ℕ) where
         span = spells-as (at + 4) next _ _ (ap (λ (m : ℕ). number m ++ elementBytes code es) (sym (r .many)))
             (join (at + 4) (at + 8) next (number (word s (at + 4))) (elementBytes code es) (rw e₈ at (a-number (at + 4) f₄ i₄)) (r .span));
       })
-      (λ q. omega arith))))
+      (λ q. sane 24 at (omega arith) (omega arith)))))
 
   -- the whole list at the front
   record IsWhole (es : Elements) (next : ℕ) : Type 0 where
-    legal : Bytes s → LegalElements 7 es
+    legal : Bytes s → LegalElements (depthLimit - 1) es
     span : Span 0 (listBytes es) next
 
   parse-read : Judged IsWhole (parse limit s)
@@ -322,7 +342,7 @@ module _ (limit : ℕ) (s : List ℕ) where
         span = spells-as 0 next _ _ (ap (λ (k : ℕ). number k ++ (number (count es) ++ elementBytes k es)) (w .code-is))
             (join 0 4 next (number (word s 0)) (number (count es) ++ elementBytes (word s 0) es) (a-number 0 f i) (w .span));
       }))
-      (λ c. omega arith))
+      (λ c. sane 22 0 (omega arith) (omega arith)))
 
 -- what is read is a legal list, and its bytes are those at the front
 pub sound : (limit : ℕ) (s : List ℕ) (es : Elements) (n : ℕ) → Bytes s → parse limit s ≡ good es n
@@ -333,16 +353,10 @@ sound limit s es n all h =
     let len : n ≡ length (listBytes es) = omega (arith, w .span .inside, simp (length-append, length-drop) at (ap length e)) in
     ((w .legal all, omega (arith, w .span .fits)), len, e)
 
--- the offset of a fault is not past the end
-pub within : (limit : ℕ) (s : List ℕ) (fault offset : ℕ) → parse limit s ≡ bad fault offset → offset ≤ length s
-within limit s fault offset h = rw h at (parse-read limit s)
+-- a refusal of list reading is sane
+pub within : (limit : ℕ) (s : List ℕ) (r : Refusal) → parse limit s ≡ bad r → SaneRefusal s r
+within limit s r h = rw h at (parse-read limit s)
 
--- what is read ends within the limit and the bytes: the list at the front, and a list inside it behind its code
+-- what is read ends within the limit and the bytes
 pub reaches : (limit : ℕ) (s : List ℕ) (es : Elements) (n : ℕ) → parse limit s ≡ good es n → (n ≤ limit) × (n ≤ length s)
 reaches limit s es n h = let w : IsWhole limit s es n = rw h at (parse-read limit s) in (w .span .fits, w .span .inside)
-
-pub inner-reaches : (limit : ℕ) (s : List ℕ) (d at code : ℕ) (es : Elements) (n : ℕ) → isListCode code ≡ true → at + 4 ≤ limit → at + 4 ≤ length s
-    → listAt d limit s at code ≡ good es n → (n ≤ limit) × (n ≤ length s)
-inner-reaches limit s d at code es n c f i h =
-    let w : IsList limit s d at code es n = rw h at (list-read limit s d at code c f i) in
-    (w .span .fits, w .span .inside)

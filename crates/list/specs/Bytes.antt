@@ -1,20 +1,21 @@
 -- The bytes of a list.
-use Prim.Native.Nat.{ℕ, suc, _+_}
+use Prim.Native.Nat.{ℕ, _+_}
 use mathlib.Core.Bool.{cond}
-use mathlib.Core.List.{List, [], _∷_, _++_}
+use mathlib.Core.List.{List, [], _++_}
 use lib.Dec.{eqb}
 use lib.ListN.{length}
 use Rattle.wire.specs.Number.{leBytes}
 use Rattle.list.specs.Kind.{codeOf, listCode}
+use Rattle.list.specs.Strings.{terminator, stringLength}
 use Rattle.list.specs.Tree.{Value, Elements, int, vocab, float, str, blob, none, value, list, kind, count}
 
 -- "Numbers are 32-bit, low byte first"
 abbrev pub number : ℕ → List ℕ
 number n = leBytes 4 n
 
--- "a string ends in zero; its example also puts a length first that counts that zero. The example decides."
+-- a string is its length, its bytes and what stands behind them
 abbrev pub stringBytes : List ℕ → List ℕ
-stringBytes bs = number (suc (length bs)) ++ (bs ++ (0 ∷ []))
+stringBytes bs = number (stringLength (length bs)) ++ (bs ++ terminator)
 
 -- "A blob is its length, at least 0, then its bytes."
 abbrev pub blobBytes : List ℕ → List ℕ

@@ -18,11 +18,11 @@ codeOf Vocab = 9
 -- the kind of a code
 unfoldable pub kindOf : ℕ → KindFound
 kindOf code =
-    cond (eqb code 1) (Is Int)
-    (cond (eqb code 10) (Is Float)
-    (cond (eqb code 4) (Is Str)
-    (cond (eqb code 12) (Is Blob)
-    (cond (eqb code 9) (Is Vocab)
+    cond (eqb code (codeOf Int)) (Is Int)
+    (cond (eqb code (codeOf Float)) (Is Float)
+    (cond (eqb code (codeOf Str)) (Is Str)
+    (cond (eqb code (codeOf Blob)) (Is Blob)
+    (cond (eqb code (codeOf Vocab)) (Is Vocab)
     Unknown))))
 
 -- the bytes of a fixed element, or of the length before a string's or a blob's bytes

@@ -1,7 +1,10 @@
 pub mod Limits
 pub mod Kind
 pub mod Tree
+pub mod Strings
 pub mod Bytes
 pub mod Rows
+pub mod RowBytes
 pub mod Legal
+pub mod Refusal
 pub mod Parse

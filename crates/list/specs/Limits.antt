@@ -16,3 +16,7 @@ rowRoom = 3072
 -- "A list may stand inside a list to depth 8, the outermost being 1"
 abbrev pub depthLimit : ℕ
 depthLimit = 8
+
+-- "rows of three 32-bit numbers": how many numbers a row has
+abbrev pub rowNumbers : ℕ
+rowNumbers = 3

@@ -1,30 +1,31 @@
 -- Reading a list: the tree at the front of any bytes, or the first fault from the front with its offset.
 -- "Items are codes, counts, fixed elements, a length, a run of string or blob bytes."
 use Prim.Native.Nat.{ℕ, zero, suc, _+_, _-_}
-use mathlib.Core.Bool.{Bool, true, false, not, cond, _&&_, _||_}
+use mathlib.Core.Bool.{Bool, true, false, cond, _&&_, _||_}
 use mathlib.Core.List.{List}
 use lib.Dec.{eqb, ltb, leb}
-use lib.ListN.{length, getD, take, drop}
+use lib.ListN.{length, take, drop}
 use Rattle.wire.specs.Number.{numberAt}
-use Rattle.wire.specs.Zero.{hasZero}
 use Rattle.list.specs.declared.Kind.{Kind}
 use Rattle.list.specs.declared.Kind.the-variants.{Int, Float, Str, Blob, Vocab}
 use Rattle.list.specs.declared.KindFound.{KindFound}
 use Rattle.list.specs.declared.KindFound.the-variants.{Is, Unknown}
 use Rattle.list.specs.Limits.{depthLimit}
-use Rattle.list.specs.Kind.{kindOf, listCode}
+use Rattle.list.specs.Refusal.{Refusal, refusal}
+use Rattle.list.specs.Strings.{stringSize, negative, badLength, closed}
+use Rattle.list.specs.Kind.{kindOf, sizeOf, listCode}
 use Rattle.list.specs.Tree.{Value, Elements, int, vocab, float, str, blob, none, value, list}
 use Rattle.list.specs.Bytes.{listCodeOf}
 
--- what was read and the offset behind it, or 01's number and the offset of the item at fault
+-- what was read and the offset behind it, or the refusal of the item at fault
 pub data Parsed (A : Type 0) : Type 0 where
   good : A → ℕ → Parsed A
-  bad : ℕ → ℕ → Parsed A
+  bad : Refusal → Parsed A
 
 -- goes on behind what was read
 abbrev pub andThen : {A B : Type 0} → Parsed A → (A → ℕ → Parsed B) → Parsed B
 andThen (good a next) go = go a next
-andThen (bad number offset) go = bad number offset
+andThen (bad r) go = bad r
 
 -- "For each, 28 comes before 21": an item of n bytes at `at`; 0 where all of it is there
 unfoldable pub itemFault : ℕ → List ℕ → ℕ → ℕ → ℕ
@@ -33,42 +34,35 @@ itemFault limit s at n = cond (ltb limit (at + n)) 28 (cond (ltb (length s) (at 
 -- "and then its own fault"
 abbrev pub afterItem : {A : Type 0} → ℕ → ℕ → Parsed A → Parsed A
 afterItem zero at p = p
-afterItem (suc fault) at p = bad (suc fault) at
+afterItem (suc fault) at p = bad (refusal (suc fault) at)
 
--- the 32-bit number at an offset, and whether it is below 0 as a signed one
+-- the 32-bit number at an offset
 abbrev pub word : List ℕ → ℕ → ℕ
 word s at = numberAt 4 s at
 
-abbrev pub negative : ℕ → Bool
-negative n = leb 2147483648 n
-
--- "a string's zero misplaced or missing at its end": the last byte is the only zero
-abbrev pub closed : List ℕ → Bool
-closed run = not (hasZero (take (length run - 1) run)) && eqb (getD run (length run - 1) 1) 0
-
--- "string length below 1", then its run of bytes
+-- a string: its length, then its run of bytes
 unfoldable pub stringAt : ℕ → List ℕ → ℕ → Parsed Value
 stringAt limit s at =
     afterItem (itemFault limit s at 4) at
-    (cond (eqb (word s at) 0 || negative (word s at)) (bad 25 at)
+    (cond (badLength (word s at)) (bad (refusal 25 at))
     (afterItem (itemFault limit s (at + 4) (word s at)) (at + 4)
     (cond (closed (take (word s at) (drop (at + 4) s)))
-    (good (str (take (word s at - 1) (drop (at + 4) s))) (at + 4 + word s at))
-    (bad 25 (at + 4)))))
+    (good (str (take (stringSize (word s at)) (drop (at + 4) s))) (at + 4 + word s at))
+    (bad (refusal 25 (at + 4))))))
 
 -- "blob length below 0", then its run of bytes
 unfoldable pub blobAt : ℕ → List ℕ → ℕ → Parsed Value
 blobAt limit s at =
     afterItem (itemFault limit s at 4) at
-    (cond (negative (word s at)) (bad 25 at)
+    (cond (negative (word s at)) (bad (refusal 25 at))
     (afterItem (itemFault limit s (at + 4) (word s at)) (at + 4)
     (good (blob (take (word s at) (drop (at + 4) s))) (at + 4 + word s at))))
 
 -- an element of a kind, behind its code if it has one
 unfoldable pub valueAt : ℕ → List ℕ → ℕ → Kind → Parsed Value
-valueAt limit s at Int = afterItem (itemFault limit s at 4) at (good (int (word s at)) (at + 4))
-valueAt limit s at Vocab = afterItem (itemFault limit s at 4) at (good (vocab (word s at)) (at + 4))
-valueAt limit s at Float = afterItem (itemFault limit s at 8) at (good (float (word s at) (word s (at + 4))) (at + 8))
+valueAt limit s at Int = afterItem (itemFault limit s at (sizeOf Int)) at (good (int (word s at)) (at + sizeOf Int))
+valueAt limit s at Vocab = afterItem (itemFault limit s at (sizeOf Vocab)) at (good (vocab (word s at)) (at + sizeOf Vocab))
+valueAt limit s at Float = afterItem (itemFault limit s at (sizeOf Float)) at (good (float (word s at) (word s (at + 4))) (at + sizeOf Float))
 valueAt limit s at Str = stringAt limit s at
 valueAt limit s at Blob = blobAt limit s at
 
@@ -89,7 +83,7 @@ isListCode code = eqb code listCode || (leb listCode code && isKind (kindOf (cod
 -- "element code unknown" is 26 at the code
 abbrev pub codedValue : ℕ → List ℕ → ℕ → KindFound → Parsed (Elements → Elements)
 codedValue limit s at (Is k) = andThen (valueAt limit s (at + 4) k) (λ v next. good (value v) next)
-codedValue limit s at Unknown = bad 26 at
+codedValue limit s at Unknown = bad (refusal 26 at)
 
 -- an element that follows its code; `inner` reads a list at an offset, of a given code
 unfoldable pub codedAt : (ℕ → ℕ → Parsed Elements) → ℕ → List ℕ → ℕ → Parsed (Elements → Elements)
@@ -112,18 +106,18 @@ elementsAt inner limit s Unknown n at = mixedAt inner limit s n at
 
 -- "24 is judged after a list's last element .. with the place of its code": the code is not the one that the elements call for
 abbrev pub finished : ℕ → ℕ → Parsed Elements → Parsed Elements
-finished code at p = andThen p (λ es end. cond (eqb code (listCodeOf es)) (good es end) (bad 24 at))
+finished code at p = andThen p (λ es end. cond (eqb code (listCodeOf es)) (good es end) (bad (refusal 24 at)))
 
 -- a list whose code stands at `at`, where `depth` lists may stand in one another, this one included: "27 is given at a nested list's code"
 unfoldable pub listAt : ℕ → ℕ → List ℕ → ℕ → ℕ → Parsed Elements
-listAt zero limit s at code = bad 27 at
+listAt zero limit s at code = bad (refusal 27 at)
 listAt (suc depth) limit s at code =
     afterItem (itemFault limit s (at + 4) 4) (at + 4)
-    (cond (negative (word s (at + 4))) (bad 23 (at + 4))
+    (cond (negative (word s (at + 4))) (bad (refusal 23 (at + 4)))
     (finished code at (elementsAt (listAt depth limit s) limit s (kindOf (code - listCode)) (word s (at + 4)) (at + 8))))
 
 -- "The reader judges the list at the front": its elements and its size, or the fault
 unfoldable pub parse : ℕ → List ℕ → Parsed Elements
 parse limit s =
     afterItem (itemFault limit s 0 4) 0
-    (cond (isListCode (word s 0)) (listAt depthLimit limit s 0 (word s 0)) (bad 22 0))
+    (cond (isListCode (word s 0)) (listAt depthLimit limit s 0 (word s 0)) (bad (refusal 22 0)))

@@ -2,6 +2,8 @@
 use Prim.Native.Nat.{ℕ, _+_}
 use mathlib.Core.List.{List, [], _∷_, _++_}
 use lib.ListN.{length}
+use Rattle.list.specs.declared.Kind.the-variants.{Int, Float, Str, Blob, Vocab}
+use Rattle.list.specs.Kind.{codeOf, listCode}
 use Rattle.list.specs.Tree.{Value, Elements, int, vocab, float, str, blob, none, value, list, count}
 
 -- "strings (without the zero) and blobs lie back to back from 0 in row order"
@@ -19,15 +21,15 @@ elementStore (list inner es) = elementStore inner ++ elementStore es
 
 -- "int (1, bits, 0), vocab (9, bits, 0), float (10, low half, high half), string (4, place, length) and blob (12, place, length)"
 abbrev pub valueRow : ℕ → Value → List ℕ
-valueRow used (int n) = 1 ∷ n ∷ 0 ∷ []
-valueRow used (vocab n) = 9 ∷ n ∷ 0 ∷ []
-valueRow used (float low high) = 10 ∷ low ∷ high ∷ []
-valueRow used (str bs) = 4 ∷ used ∷ length bs ∷ []
-valueRow used (blob bs) = 12 ∷ used ∷ length bs ∷ []
+valueRow used (int n) = codeOf Int ∷ n ∷ 0 ∷ []
+valueRow used (vocab n) = codeOf Vocab ∷ n ∷ 0 ∷ []
+valueRow used (float low high) = codeOf Float ∷ low ∷ high ∷ []
+valueRow used (str bs) = codeOf Str ∷ used ∷ length bs ∷ []
+valueRow used (blob bs) = codeOf Blob ∷ used ∷ length bs ∷ []
 
 -- "list (256, count, 0)"
 abbrev pub listRow : Elements → List ℕ
-listRow es = 256 ∷ count es ∷ 0 ∷ []
+listRow es = listCode ∷ count es ∷ 0 ∷ []
 
 -- "in the order of the bytes, so outer before inner and all of an element before the next"; `used` store bytes stand before them
 abbrev pub elementRows : ℕ → Elements → List ℕ

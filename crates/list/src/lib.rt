@@ -1,21 +1,96 @@
-// What a list is: the kinds of its elements, and the limits of 01.
+// What a list is: the kinds of its elements, the limits of 01, its rows, and the refusal of list reading.
 ghost use mathlib.Core.Path.{_≡_};
-ghost use Rattle.list.specs.Kind.{codeOf, kindOf, sizeOf};
+ghost use lib.ListN.{getD};
+ghost use Rattle.list.specs.Kind.{kindOf, sizeOf};
+ghost use Rattle.list.specs.Bytes.{common};
+ghost use Rattle.list.specs.RowBytes.{unpacked, rowOf};
 
-// "A list has at most 4,096 bytes": also the room that a list buffer and a byte store must have.
+// "A list has at most 4,096 bytes": also the room that a list buffer must have.
 pub const LIST_LIMIT: usize = 4096;
 
-// "rows under 3,072 numbers": three numbers for each of 1,024 rows.
-pub const ROW_NUMBERS: usize = 3072;
+// "store under 4,096"
+pub const STORE_ROOM: usize = 4096;
 
-// The same room where rows are lent as bytes, four to a number.
-pub const ROW_BYTES: usize = 4 * ROW_NUMBERS;
+// "rows under 3,072 numbers"
+pub const ROW_ROOM: usize = 3072;
+
+// The bytes of a number.
+pub const NUMBER: usize = 4;
+
+// The numbers of a row.
+pub const ROW_NUMBERS: usize = 3;
+
+// The bytes of a row, and the room that rows must have, in bytes.
+pub const ROW: usize = NUMBER * ROW_NUMBERS;
+
+pub const ROW_BYTES: usize = NUMBER * ROW_ROOM;
+
+// A number from here on is below 0 as a signed one.
+pub const NEGATIVE: u32 = 0x8000_0000;
+
+// "a string ends in zero": the bytes that stand behind a string's own and are counted in its length.
+pub const TERMINATOR: u32 = 1;
 
 // "A list may stand inside a list to depth 8, the outermost being 1."
 pub const DEPTH_LIMIT: usize = 8;
 
 // The code of a list whose elements carry their codes; a typed list has this and its kind's code.
 pub const LIST_CODE: u32 = 256;
+
+// Why list reading refuses: 01's number, and the offset of the item at fault.
+pub struct Refusal {
+    pub error: u8,
+    pub offset: usize,
+}
+
+// One row of a list: a code and two numbers.
+pub struct Row {
+    pub code: u32,
+    pub second: u32,
+    pub third: u32,
+}
+
+// A number of rows that are bytes, 0 past the last.
+pub fn number_at(rows: &[u8], i: usize) -> u32
+    ensures { λ r. ⌜ r ≡ getD (unpacked (now (rows .entry))) i 0 ⌝ }
+{
+    if i < rows.len() / NUMBER {
+        return numbers::u32_at(rows, NUMBER * i);
+    }
+    0
+}
+
+// Row i of rows that are bytes, zeros past the last.
+pub fn row_at(rows: &[u8], i: usize) -> Row
+    ensures { λ r. ⌜ r ≡ rowOf (now (rows .entry)) i ⌝ }
+{
+    if rows.len() / NUMBER <= i {
+        return Row {
+            code: 0,
+            second: 0,
+            third: 0,
+        };
+    }
+    let at = ROW_NUMBERS * i;
+    Row {
+        code: number_at(rows, at),
+        second: number_at(rows, at + 1),
+        third: number_at(rows, at + 2),
+    }
+}
+
+// The code that the elements so far have in common: 0 before the first, LIST_CODE where two differ or one is a list.
+pub fn common_code(seen: u32, code: u32) -> u32
+    ensures { λ r. ⌜ r ≡ common seen code ⌝ }
+{
+    if seen == 0 {
+        return code;
+    }
+    if seen == code {
+        return code;
+    }
+    LIST_CODE
+}
 
 // "Codes: NetInt 1, NetFloat 10 (8 bytes, low byte first), NetString 4, NetBlob 12, NetVocab 9."
 pub enum Kind {
@@ -64,28 +139,16 @@ impl Kind {
         KindFound::Unknown
     }
 
-    pub fn code(self) -> u32
-        ensures { λ r. ⌜ r ≡ codeOf self ⌝ }
-    {
-        match self {
-            Kind::Int => Kind::INT,
-            Kind::Float => Kind::FLOAT,
-            Kind::Str => Kind::STR,
-            Kind::Blob => Kind::BLOB,
-            Kind::Vocab => Kind::VOCAB,
-        }
-    }
-
     // The bytes of a fixed element, or of the length that stands before a string's or a blob's bytes.
     pub fn size(self) -> usize
         ensures { λ r. ⌜ r ≡ sizeOf self ⌝ }
     {
         match self {
-            Kind::Int => 4,
-            Kind::Float => 8,
-            Kind::Str => 4,
-            Kind::Blob => 4,
-            Kind::Vocab => 4,
+            Kind::Int => NUMBER,
+            Kind::Float => 2 * NUMBER,
+            Kind::Str => NUMBER,
+            Kind::Blob => NUMBER,
+            Kind::Vocab => NUMBER,
         }
     }
 }

@@ -10,7 +10,7 @@ use Rattle.list.proofs.Items.{fault-fits}
 -- what holds of what was read; a fault says nothing
 abbrev pub Gives : {A : Type 0} → (A → ℕ → Type 0) → Parsed A → Type 0
 Gives G (good a next) = G a next
-Gives G (bad fault offset) = Unit {0}
+Gives G (bad r) = Unit {0}
 
 pub test : {A : Type 0} (G : A → ℕ → Type 0) (b : Bool) (p q : Parsed A) → (b ≡ true → Gives G p) → (b ≡ false → Gives G q) → Gives G (cond b p q)
 test G true p q x y = x refl
@@ -19,7 +19,7 @@ test G false p q x y = y refl
 pub next-step : {A B : Type 0} (G : A → ℕ → Type 0) (H : B → ℕ → Type 0) (p : Parsed A) (go : A → ℕ → Parsed B) → Gives G p
     → ((a : A) (next : ℕ) → p ≡ good a next → G a next → Gives H (go a next)) → Gives H (andThen p go)
 next-step G H (good a next) go h f = f a next refl h
-next-step G H (bad fault offset) go h f = tt
+next-step G H (bad r) go h f = tt
 
 pub after-item : {A : Type 0} (limit : ℕ) (s : List ℕ) (G : A → ℕ → Type 0) (at n : ℕ) (p : Parsed A)
     → (at + n ≤ limit → at + n ≤ length s → Gives G p) → Gives G (afterItem (itemFault limit s at n) at p)

@@ -1,14 +1,13 @@
 -- What is read has the kind that was asked for.
 use Prim.Native.Nat.{ℕ, zero, suc, _+_}
 use mathlib.Core.Path.{_≡_, refl, ap}
-use mathlib.Core.Bool.{_||_}
 use mathlib.Core.List.{List}
-use lib.Dec.{eqb}
 use lib.ListN.{take, drop}
 use Rattle.list.specs.declared.Kind.{Kind}
 use Rattle.list.specs.declared.Kind.the-variants.{Int, Float, Str, Blob, Vocab}
 use Rattle.list.specs.Tree.{Value, Elements, kind, count}
-use Rattle.list.specs.Parse.{good, word, negative, closed, stringAt, blobAt, valueAt, typedAt}
+use Rattle.list.specs.Strings.{negative, badLength, closed}
+use Rattle.list.specs.Parse.{good, word, stringAt, blobAt, valueAt, typedAt}
 use Rattle.list.proofs.Codes.{AllKind}
 use Rattle.list_check.proofs.Gives.{Gives, test, next-step, after-item}
 
@@ -20,7 +19,7 @@ module _ (limit : ℕ) (s : List ℕ) where
   of-kind Float at = after-item limit s _ at 8 _ (λ f i. refl)
   of-kind Str at =
       after-item limit s _ at 4 _ (λ f₄ i₄.
-      test _ (eqb (word s at) 0 || negative (word s at)) _ _ (λ e. tt) (λ e.
+      test _ (badLength (word s at)) _ _ (λ e. tt) (λ e.
       after-item limit s _ (at + 4) (word s at) _ (λ f i.
       test _ (closed (take (word s at) (drop (at + 4) s))) _ _ (λ c. refl) (λ c. tt))))
   of-kind Blob at =

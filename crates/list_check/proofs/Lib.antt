@@ -1,5 +1,9 @@
+pub mod Told
+pub mod Zero
 pub mod Codes
 pub mod Gives
 pub mod KindRead
-pub mod Checks
+pub mod Typed
+pub mod Mixed
+pub mod Front
 pub mod Promised

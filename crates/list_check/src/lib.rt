@@ -4,67 +4,72 @@ use list::Kind;
 use list::KindFound;
 use list::LIST_CODE;
 use list::LIST_LIMIT;
+use list::NEGATIVE;
+use list::NUMBER;
+use list::Refusal;
+use list::TERMINATOR;
+use list::common_code;
+use numbers::u32_at;
 ghost use mathlib.Core.Path.{_≡_};
 ghost use mathlib.Core.Bool.{true};
-ghost use Prim.Native.Nat.{_+_, _≤_, _<_, _^_};
+ghost use Prim.Native.Nat.{_+_, _≤_, _<_, _^_, min};
+ghost use lib.Dec.{ltb};
 ghost use lib.ListN.{length};
-ghost use Rattle.list.specs.Limits.{listLimit, depthLimit};
-ghost use Rattle.list.specs.Bytes.{common};
-ghost use Rattle.list.specs.Parse.{itemFault, word, closed, stringAt, blobAt, valueAt, typedAt, isListCode, listAt, finished};
-ghost use Rattle.list.specs.Kind.{listCode, typedCode};
-ghost use Rattle.list_check.specs.Check.{checked, verdictOf, checkingOf};
-ghost use Rattle.list_check.specs.Steps.{lastEnd, firstZero, fixedAt, countAt, headAt, headFrom, otherHead, closeOf, Within, WithinHead, Counted};
+ghost use Rattle.list.specs.Limits.{listLimit};
+ghost use Rattle.list.specs.Kind.{sizeOf};
+ghost use Rattle.list.specs.Refusal.{refusal};
+ghost use Rattle.list.specs.Strings.{closed};
+ghost use Rattle.list.specs.Parse.{word, valueAt, typedAt, isListCode, codedAt, listAt, parse};
+ghost use Rattle.list.proofs.TypedRun.{Fixed};
+ghost use Rattle.list_check.specs.Check.{refused, judged, verdictOf, checkingOf};
+ghost use Rattle.list_check.specs.Steps.{toldBy, missingAt, firstZero, closeOf, Refuses, runKind, TypedAnswer};
 
-// The bytes of a number.
-pub const NUMBER: usize = 4;
-
-// A number from here on is below 0 as a signed one.
-const NEGATIVE: u32 = 0x8000_0000;
-
-// The offset behind what was judged; or 01's number and the offset of the item at fault.
+// The offset behind what was judged, or why it is refused.
 pub enum Checked {
     Ok(usize),
-    Bad(u8, usize),
+    Refused(Refusal),
 }
 
-// An element that follows its code: a value's code and the offset behind it, the code of a list, or a fault.
-enum Head {
-    Value(u32, usize),
-    Inner(u32),
-    Fault(u8, usize),
-}
+// Inside, an answer is one number, which stays in a register (a struct would go through memory): an offset up to the limit,
+// or from FAULT on a refusal. `refuse` makes one and `answer` takes it apart; between them it is handed on whole.
+type Judged = usize;
 
-// Where an item must end: at the limit, or where the bytes end.
-fn last_end(size: usize) -> usize
-    ensures { λ r. ⌜ r ≡ lastEnd size ⌝ }
+const FAULT: usize = 2 * LIST_LIMIT;
+
+fn refuse(error: u8, offset: usize) -> Judged
+    requires { ⌜ (0 < error) × (offset ≤ listLimit) ⌝ }
+    ensures { λ r. ⌜ toldBy r ≡ refused (refusal error offset) ⌝ }
 {
-    if LIST_LIMIT < size {
-        return LIST_LIMIT;
-    }
-    size
+    FAULT * (error as usize) + offset
 }
 
-// An item of n bytes: 28 where it would end beyond the limit, 21 where the bytes end inside it, else 0. An item that fits
-// takes one comparison.
-fn fault(s: &[u8], at: usize, n: usize) -> u8
-    requires { ⌜ (at ≤ 8192) × (n < 2 ^ 32) ⌝ }
-    ensures { λ r. ⌜ r ≡ itemFault listLimit (now (s .entry)) at n ⌝ }
+fn is_refused(j: Judged) -> bool
+    ensures { λ r. ⌜ r ≡ ltb listLimit j ⌝ }
 {
-    if at + n <= last_end(s.len()) {
-        return 0;
+    LIST_LIMIT < j
+}
+
+fn answer(j: Judged) -> Checked
+    ensures { λ r. ⌜ verdictOf r ≡ toldBy j ⌝ }
+{
+    if is_refused(j) {
+        return Checked::Refused(Refusal {
+            error: (j / FAULT % 256) as u8,
+            offset: j % FAULT,
+        });
     }
+    Checked::Ok(j)
+}
+
+// An item of n bytes that is not all there: 28 where it would end beyond the limit, else 21.
+fn missing(at: usize, n: usize) -> Judged
+    requires { ⌜ (at ≤ listLimit) × (n < 2 ^ 32) ⌝ }
+    ensures { λ r. ⌜ toldBy r ≡ refused (missingAt at n) ⌝ }
+{
     if LIST_LIMIT < at + n {
-        return 28;
+        return refuse(28, at);
     }
-    21
-}
-
-// The number at an offset where its four bytes are there.
-fn word_at(s: &[u8], at: usize) -> u32
-    requires { ⌜ at + 4 ≤ length (now s) ⌝ }
-    ensures { λ r. ⌜ r ≡ word (now (s .entry)) at ⌝ }
-{
-    numbers::join32(s[at], s[at + 1], s[at + 2], s[at + 3])
+    refuse(21, at)
 }
 
 // Is the last byte of a string's bytes the only zero.
@@ -72,7 +77,7 @@ fn is_closed(run: &[u8]) -> bool
     requires { ⌜ 0 < length (now run) ⌝ }
     ensures { λ r. ⌜ r ≡ closed (now (run .entry)) ⌝ }
 {
-    let last = run.len() - 1;
+    let last = run.len() - TERMINATOR as usize;
     if run[last] == 0 {
         return first_zero(run) == last;
     }
@@ -92,122 +97,106 @@ fn first_zero(s: &[u8]) -> usize
     i
 }
 
-fn check_fixed(s: &[u8], at: usize, n: usize) -> Checked
-    requires { ⌜ (at ≤ 4100) × (n < 2 ^ 32) ⌝ }
-    ensures { λ r. ⌜ (r ≡ fixedAt listLimit (now (s .entry)) at n) × Within r ⌝ }
+// A string whose length is there.
+fn string_end(s: &[u8], at: usize) -> Judged
+    requires { ⌜ (at + 4 ≤ length (now s)) × (length (now s) ≤ listLimit) ⌝ }
+    ensures { λ r. ⌜ toldBy r ≡ judged (valueAt listLimit (now (s .entry)) at Kind.Str) ⌝ }
 {
-    let f = fault(s, at, n);
-    if f != 0 {
-        return Checked::Bad(f, at);
-    }
-    Checked::Ok(at + n)
-}
-
-// A string: its length, then its bytes.
-fn check_string(s: &[u8], at: usize) -> Checked
-    requires { ⌜ at ≤ 4100 ⌝ }
-    ensures { λ r. ⌜ (r ≡ checked (stringAt listLimit (now (s .entry)) at)) × Within r ⌝ }
-{
-    let f = fault(s, at, NUMBER);
-    if f != 0 {
-        return Checked::Bad(f, at);
-    }
-    let length = word_at(s, at);
-    if length == 0 {
-        return Checked::Bad(25, at);
+    let length = u32_at(s, at);
+    if length < TERMINATOR {
+        return refuse(25, at);
     }
     if NEGATIVE <= length {
-        return Checked::Bad(25, at);
+        return refuse(25, at);
     }
     let n = length as usize;
     let first = at + NUMBER;
-    let g = fault(s, first, n);
-    if g != 0 {
-        return Checked::Bad(g, first);
+    if s.len() < first + n {
+        return missing(first, n);
     }
     if is_closed(&s[first..first + n]) {
-        return Checked::Ok(first + n);
+        return first + n;
     }
-    Checked::Bad(25, first)
+    refuse(25, first)
 }
 
-// A blob: its length, then its bytes.
-fn check_blob(s: &[u8], at: usize) -> Checked
-    requires { ⌜ at ≤ 4100 ⌝ }
-    ensures { λ r. ⌜ (r ≡ checked (blobAt listLimit (now (s .entry)) at)) × Within r ⌝ }
+// A blob whose length is there.
+fn blob_end(s: &[u8], at: usize) -> Judged
+    requires { ⌜ (at + 4 ≤ length (now s)) × (length (now s) ≤ listLimit) ⌝ }
+    ensures { λ r. ⌜ toldBy r ≡ judged (valueAt listLimit (now (s .entry)) at Kind.Blob) ⌝ }
 {
-    let f = fault(s, at, NUMBER);
-    if f != 0 {
-        return Checked::Bad(f, at);
-    }
-    let length = word_at(s, at);
+    let length = u32_at(s, at);
     if NEGATIVE <= length {
-        return Checked::Bad(25, at);
+        return refuse(25, at);
     }
-    check_fixed(s, at + NUMBER, length as usize)
+    let n = length as usize;
+    let first = at + NUMBER;
+    if s.len() < first + n {
+        return missing(first, n);
+    }
+    first + n
 }
 
-// An element of a kind, behind its code if it has one.
-fn check_value(s: &[u8], at: usize, kind: Kind) -> Checked
-    requires { ⌜ at ≤ 4100 ⌝ }
-    ensures { λ r. ⌜ (r ≡ checked (valueAt listLimit (now (s .entry)) at kind)) × Within r ⌝ }
+// A string or a blob: its length, then its bytes.
+fn check_run(s: &[u8], at: usize, string: bool) -> Judged
+    requires { ⌜ (at ≤ listLimit) × (length (now s) ≤ listLimit) ⌝ }
+    ensures { λ r. ⌜ toldBy r ≡ judged (valueAt listLimit (now (s .entry)) at (runKind string)) ⌝ }
 {
-    match kind {
-        Kind::Int => check_fixed(s, at, Kind::Int.size()),
-        Kind::Vocab => check_fixed(s, at, Kind::Vocab.size()),
-        Kind::Float => check_fixed(s, at, Kind::Float.size()),
-        Kind::Str => check_string(s, at),
-        Kind::Blob => check_blob(s, at),
+    if s.len() < at + NUMBER {
+        return missing(at, NUMBER);
     }
+    if string {
+        return string_end(s, at);
+    }
+    blob_end(s, at)
 }
 
-// Elements of one kind, met one by one.
-fn check_each(s: &[u8], at: usize, kind: Kind, n: usize) -> Checked
-    requires { ⌜ at ≤ 4096 ⌝ }
-    ensures { λ r. ⌜ (r ≡ checked (typedAt listLimit (now (s .entry)) kind n at)) × Within r ⌝ }
+// The strings or the blobs of a typed list. The compiler makes a loop for each.
+fn check_each(s: &[u8], at: usize, string: bool, n: usize) -> Judged
+    requires { ⌜ (at ≤ listLimit) × (length (now s) ≤ listLimit) ⌝ }
+    ensures { λ r. ⌜ toldBy r ≡ judged (typedAt listLimit (now (s .entry)) (runKind string) n at) ⌝ }
 {
     let mut pos = at;
     let mut left = n;
     while 0 < left {
-        let c = check_value(s, pos, kind);
-        match c {
-            Checked::Bad(error, offset) => {
-                return Checked::Bad(error, offset);
-            }
-            Checked::Ok(next) => {
-                pos = next;
-            }
+        let next = check_run(s, pos, string);
+        if is_refused(next) {
+            return next;
         }
+        pos = next;
         left -= 1;
     }
-    Checked::Ok(pos)
+    pos
 }
 
-// Elements of a fixed size, which end at `end`: one test where all of them are there.
-fn check_all(s: &[u8], at: usize, kind: Kind, n: usize, end: usize) -> Checked
-    requires { ⌜ (at ≤ 4096) × (end ≤ listLimit → end ≤ length (now s) → checked (typedAt listLimit (now s) kind n at) ≡ Checked.Ok end) ⌝ }
-    ensures { λ r. ⌜ (r ≡ checked (typedAt listLimit (now (s .entry)) kind n at)) × Within r ⌝ }
+// The elements of a typed list that have a fixed size: one test where all of them are there, else the first that is not.
+fn check_all(s: &[u8], at: usize, kind: Kind, n: usize) -> Judged
+    requires { ⌜ Fixed kind × (at ≤ length (now s)) × (length (now s) ≤ listLimit) × (n < 2 ^ 32) ⌝ }
+    ensures { λ r. ⌜ toldBy r ≡ judged (typedAt listLimit (now (s .entry)) kind n at) ⌝ }
 {
-    if LIST_LIMIT < end {
-        return check_each(s, at, kind, n);
+    let size = kind.size();
+    if s.len() < at + size * n {
+        return missing(at + (s.len() - at) / size * size, size);
     }
-    if s.len() < end {
-        return check_each(s, at, kind, n);
-    }
-    Checked::Ok(end)
+    at + size * n
 }
 
-// The elements of a typed list.
-fn check_typed(s: &[u8], at: usize, kind: Kind, n: usize) -> Checked
-    requires { ⌜ (at ≤ 4096) × (n < 2 ^ 32) ⌝ }
-    ensures { λ r. ⌜ (r ≡ checked (typedAt listLimit (now (s .entry)) kind n at)) × Within r ⌝ }
+// A typed list behind its count, by the code of its kind: 24 where it has no element. No other code comes here.
+fn typed_list(s: &[u8], at: usize, code: u32, n: usize) -> Judged
+    requires { ⌜ (at + 8 ≤ length (now s)) × (length (now s) ≤ listLimit) × (n < 2 ^ 32) ⌝ }
+    ensures { λ r. ⌜ TypedAnswer (now (s .entry)) at code n r ⌝ }
 {
-    match kind {
-        Kind::Int => check_all(s, at, Kind::Int, n, at + NUMBER * n),
-        Kind::Vocab => check_all(s, at, Kind::Vocab, n, at + NUMBER * n),
-        Kind::Float => check_all(s, at, Kind::Float, n, at + 2 * NUMBER * n),
-        Kind::Str => check_each(s, at, Kind::Str, n),
-        Kind::Blob => check_each(s, at, Kind::Blob, n),
+    if n == 0 {
+        return refuse(24, at);
+    }
+    let first = at + 2 * NUMBER;
+    match code {
+        Kind::INT => check_all(s, first, Kind::Int, n),
+        Kind::VOCAB => check_all(s, first, Kind::Vocab, n),
+        Kind::FLOAT => check_all(s, first, Kind::Float, n),
+        Kind::STR => check_each(s, first, true, n),
+        Kind::BLOB => check_each(s, first, false, n),
+        _ => refuse(24, at),
     }
 }
 
@@ -215,11 +204,11 @@ fn check_typed(s: &[u8], at: usize, kind: Kind, n: usize) -> Checked
 fn is_list_code(code: u32) -> bool
     ensures { λ r. ⌜ r ≡ isListCode code ⌝ }
 {
-    if code < LIST_CODE {
-        return false;
-    }
     if code == LIST_CODE {
         return true;
+    }
+    if code < LIST_CODE {
+        return false;
     }
     match Kind::of_code(code - LIST_CODE) {
         KindFound::Is(_) => true,
@@ -227,135 +216,124 @@ fn is_list_code(code: u32) -> bool
     }
 }
 
-// An element that follows its code.
-fn head_at(s: &[u8], at: usize) -> Head
-    requires { ⌜ at ≤ 4096 ⌝ }
-    ensures { λ r. ⌜ (r ≡ headAt listLimit (now (s .entry)) at) × WithinHead r ⌝ }
+// A value behind its code of which less than its first bytes is there.
+fn missing_value(at: usize, kind: Kind) -> Judged
+    requires { ⌜ at + 4 ≤ listLimit ⌝ }
+    ensures { λ r. ⌜ toldBy r ≡ refused (missingAt (at + 4) (sizeOf kind)) ⌝ }
 {
-    let f = fault(s, at, NUMBER);
-    if f != 0 {
-        return Head::Fault(f, at);
-    }
-    let code = word_at(s, at);
-    match Kind::of_code(code) {
-        KindFound::Is(kind) => value_head(code, check_value(s, at + NUMBER, kind)),
-        KindFound::Unknown => other_head(at, code),
-    }
+    missing(at + NUMBER, kind.size())
 }
 
-fn value_head(code: u32, c: Checked) -> Head
-    ensures { λ r. ⌜ r ≡ headFrom code c ⌝ }
+// The fault of an element of which less than its code and a number is there; `depth` lists may stand in one another in it.
+fn tail_fault(s: &[u8], pos: usize, depth: usize) -> Judged
+    requires { ⌜ (pos ≤ listLimit) × (length (now s) < pos + 8) × (length (now s) ≤ listLimit) ⌝ }
+    ensures { λ r. ⌜ Refuses r (codedAt (listAt depth listLimit (now (s .entry))) listLimit (now (s .entry)) pos) ⌝ }
 {
-    match c {
-        Checked::Ok(next) => Head::Value(code, next),
-        Checked::Bad(error, offset) => Head::Fault(error, offset),
+    if s.len() < pos + NUMBER {
+        return missing(pos, NUMBER);
     }
-}
-
-// A code that is no value's.
-fn other_head(at: usize, code: u32) -> Head
-    ensures { λ r. ⌜ r ≡ otherHead at code ⌝ }
-{
+    let code = u32_at(s, pos);
     if is_list_code(code) {
-        return Head::Inner(code);
+        if depth == 0 {
+            return refuse(27, pos);
+        }
+        return missing(pos + NUMBER, NUMBER);
     }
-    Head::Fault(26, at)
+    match Kind::of_code(code) {
+        KindFound::Is(kind) => missing_value(pos, kind),
+        KindFound::Unknown => refuse(26, pos),
+    }
 }
 
-// The code that the elements so far have in common.
-fn common_code(seen: u32, code: u32) -> u32
-    ensures { λ r. ⌜ r ≡ common seen code ⌝ }
+// The end of a fixed element that stands behind its code.
+fn behind(at: usize, kind: Kind) -> usize
+    requires { ⌜ at ≤ listLimit ⌝ }
+    ensures { λ r. ⌜ r ≡ at + 4 + sizeOf kind ⌝ }
 {
-    if seen == 0 {
-        return code;
-    }
-    if seen == code {
-        return code;
-    }
-    LIST_CODE
+    at + NUMBER + kind.size()
 }
 
 // Behind the last element of a list whose elements carry codes: 24 where one code would do for all.
-fn close(at: usize, seen: u32, next: usize) -> Checked
-    ensures { λ r. ⌜ r ≡ closeOf listCode at seen next ⌝ }
+fn close(at: usize, seen: u32, end: usize) -> Judged
+    requires { ⌜ (at ≤ listLimit) × (end ≤ listLimit) ⌝ }
+    ensures { λ r. ⌜ toldBy r ≡ closeOf at seen end ⌝ }
 {
     if seen == 0 {
-        return Checked::Ok(next);
+        return end;
     }
     if seen == LIST_CODE {
-        return Checked::Ok(next);
+        return end;
     }
-    Checked::Bad(24, at)
+    refuse(24, at)
 }
 
-fn count_at(s: &[u8], at: usize) -> Checked
-    requires { ⌜ at ≤ 4100 ⌝ }
-    ensures { λ r. ⌜ (r ≡ countAt listLimit (now (s .entry)) at) × Counted at r ⌝ }
-{
-    let f = fault(s, at, NUMBER);
-    if f != 0 {
-        return Checked::Bad(f, at);
-    }
-    let count = word_at(s, at);
-    if NEGATIVE <= count {
-        return Checked::Bad(23, at);
-    }
-    Checked::Ok(count as usize)
-}
-
-// A typed list behind its count: 24 where it has no element.
-fn typed_list(s: &[u8], at: usize, kind: Kind, n: usize) -> Checked
-    requires { ⌜ (at + 8 ≤ 4096) × (n < 2 ^ 32) ⌝ }
-    ensures { λ r. ⌜ (r ≡ checked (finished (typedCode kind) at (typedAt listLimit (now (s .entry)) kind n (at + 8)))) × Within r ⌝ }
-{
-    if n == 0 {
-        return Checked::Bad(24, at);
-    }
-    check_typed(s, at + 2 * NUMBER, kind, n)
-}
-
-// A list whose code stands at `at`, where `depth` lists may stand in one another, this one included.
-fn check_list(s: &[u8], at: usize, code: u32, depth: usize) -> Checked
-    requires { ⌜ (at ≤ 4096) × (isListCode code ≡ true) ⌝ }
-    ensures { λ r. ⌜ (r ≡ checked (listAt depth listLimit (now (s .entry)) at code)) × Within r ⌝ }
+// A list whose code and count stand at `at`, where `depth` lists may stand in one another, this one included.
+fn check_list(s: &[u8], at: usize, code: u32, count: u32, depth: usize) -> Judged
+    requires { ⌜ (at + 8 ≤ length (now s)) × (length (now s) ≤ listLimit) × (isListCode code ≡ true) × (count ≡ word (now s) (at + 4)) ⌝ }
+    ensures { λ r. ⌜ toldBy r ≡ judged (listAt depth listLimit (now (s .entry)) at code) ⌝ }
 {
     if depth == 0 {
-        return Checked::Bad(27, at);
+        return refuse(27, at);
     }
-    let opened = count_at(s, at + NUMBER);
-    let Checked::Ok(count) = opened else {
-        return opened;
-    };
-    let found = Kind::of_code(code - LIST_CODE);
-    if let KindFound::Is(kind) = found {
-        return typed_list(s, at, kind, count);
+    if NEGATIVE <= count {
+        return refuse(23, at + NUMBER);
+    }
+    if code != LIST_CODE {
+        return typed_list(s, at, code - LIST_CODE, count as usize);
     }
     let mut left = count;
     let mut pos = at + 2 * NUMBER;
     let mut seen: u32 = 0;
     while 0 < left {
-        let e = head_at(s, pos);
-        match e {
-            Head::Fault(error, offset) => {
-                return Checked::Bad(error, offset);
+        if s.len() < pos + 2 * NUMBER {
+            return tail_fault(s, pos, depth - 1);
+        }
+        let kind = u32_at(s, pos);
+        match kind {
+            Kind::INT => {
+                pos = behind(pos, Kind::Int);
+                seen = common_code(seen, Kind::INT);
             }
-            Head::Value(kind, next) => {
+            Kind::VOCAB => {
+                pos = behind(pos, Kind::Vocab);
+                seen = common_code(seen, Kind::VOCAB);
+            }
+            Kind::FLOAT => {
+                let next = behind(pos, Kind::Float);
+                if s.len() < next {
+                    return missing_value(pos, Kind::Float);
+                }
                 pos = next;
-                seen = common_code(seen, kind);
+                seen = common_code(seen, Kind::FLOAT);
             }
-            Head::Inner(inner) => {
+            Kind::STR => {
+                let next = string_end(s, pos + NUMBER);
+                if is_refused(next) {
+                    return next;
+                }
+                pos = next;
+                seen = common_code(seen, Kind::STR);
+            }
+            Kind::BLOB => {
+                let next = blob_end(s, pos + NUMBER);
+                if is_refused(next) {
+                    return next;
+                }
+                pos = next;
+                seen = common_code(seen, Kind::BLOB);
+            }
+            _ => {
+                if !is_list_code(kind) {
+                    return refuse(26, pos);
+                }
                 // A copy of the reference, so that the loop keeps its own in registers.
                 let bytes = s;
-                let c = check_list(bytes, pos, inner, depth - 1);
-                match c {
-                    Checked::Bad(error, offset) => {
-                        return Checked::Bad(error, offset);
-                    }
-                    Checked::Ok(next) => {
-                        pos = next;
-                        seen = LIST_CODE;
-                    }
+                let next = check_list(bytes, pos, kind, u32_at(bytes, pos + NUMBER), depth - 1);
+                if is_refused(next) {
+                    return next;
                 }
+                pos = next;
+                seen = LIST_CODE;
             }
         }
         left -= 1;
@@ -363,36 +341,64 @@ fn check_list(s: &[u8], at: usize, code: u32, depth: usize) -> Checked
     close(at, seen, pos)
 }
 
-// The outermost list. One with no elements, which a hub with no devices publishes, is judged without a call of the recursive
-// checker.
-fn check_outermost(s: &[u8], code: u32) -> Checked
-    requires { ⌜ isListCode code ≡ true ⌝ }
-    ensures { λ r. ⌜ r ≡ checked (listAt depthLimit listLimit (now (s .entry)) 0 code) ⌝ }
+// The fault of a list of which less than its code and its count is there.
+fn front_fault(s: &[u8]) -> Judged
+    requires { ⌜ length (now s) < 8 ⌝ }
+    ensures { λ r. ⌜ toldBy r ≡ judged (parse listLimit (now (s .entry))) ⌝ }
 {
-    let opened = count_at(s, NUMBER);
-    let Checked::Ok(count) = opened else {
-        return opened;
-    };
-    if count == 0 {
-        if code == LIST_CODE {
-            return Checked::Ok(2 * NUMBER);
-        }
-        return Checked::Bad(24, 0);
+    if s.len() < NUMBER {
+        return missing(0, NUMBER);
     }
-    check_list(s, 0, code, DEPTH_LIMIT)
+    if is_list_code(u32_at(s, 0)) {
+        return missing(NUMBER, NUMBER);
+    }
+    refuse(22, 0)
+}
+
+// The list at the front of bytes that are cut at the limit. The empty list, which a hub with no devices publishes, and ints
+// are judged without a call of the recursive checker.
+fn check_front(s: &[u8]) -> Judged
+    requires { ⌜ length (now s) ≤ listLimit ⌝ }
+    ensures { λ r. ⌜ toldBy r ≡ judged (parse listLimit (now (s .entry))) ⌝ }
+{
+    if s.len() < 2 * NUMBER {
+        return front_fault(s);
+    }
+    let code = u32_at(s, 0);
+    let count = u32_at(s, NUMBER);
+    if code == LIST_CODE {
+        if count == 0 {
+            return 2 * NUMBER;
+        }
+    }
+    if code == LIST_CODE + Kind::INT {
+        let end = 2 * NUMBER + NUMBER * (count as usize);
+        if 0 < count {
+            if end <= s.len() {
+                return end;
+            }
+        }
+    }
+    if is_list_code(code) {
+        return check_list(s, 0, code, count, DEPTH_LIMIT);
+    }
+    refuse(22, 0)
+}
+
+// Where an item must end: at the limit, or where the bytes end.
+fn last_end(size: usize) -> usize
+    ensures { λ r. ⌜ r ≡ min listLimit size ⌝ }
+{
+    if LIST_LIMIT < size {
+        return LIST_LIMIT;
+    }
+    size
 }
 
 // The list at the front.
 pub fn check(s: &[u8]) -> Checked
     ensures { λ r. ⌜ verdictOf r ≡ checkingOf (now (s .entry)) ⌝ }
 {
-    let f = fault(s, 0, NUMBER);
-    if f != 0 {
-        return Checked::Bad(f, 0);
-    }
-    let code = word_at(s, 0);
-    if is_list_code(code) {
-        return check_outermost(s, code);
-    }
-    Checked::Bad(22, 0)
+    let end = last_end(s.len());
+    answer(check_front(&s[0..end]))
 }

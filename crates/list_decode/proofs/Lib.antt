@@ -1,3 +1,6 @@
-pub mod Reading
-pub mod Fills
+pub mod Writing
+pub mod Runs
+pub mod Elements
+pub mod Judged
+pub mod Filling
 pub mod Answers

@@ -1,3 +1,2 @@
 pub mod Decode
-pub mod Packed
-pub mod Items
+pub mod Pieces

@@ -1,96 +1,68 @@
 // Writes the rows and the store bytes of a list that was judged.
-use crate::item::Place;
-use crate::item::element;
-use crate::item::put_bytes;
-use crate::item::value_item;
+use crate::put::Cursor;
+use crate::put::put_plain;
+use crate::put::put_stored;
+use crate::run::put_run;
 use list::Kind;
-use list::KindFound;
-use list_check::NUMBER;
-ghost use mathlib.Core.Path.{_≡_};
-ghost use mathlib.Core.List.{[], _∷_};
-ghost use Prim.Native.Nat.{_+_, _*_, _≤_};
-ghost use lib.ListN.{length};
-ghost use lib.Seq.{sets};
-ghost use Rattle.list_decode.specs.Items.{runAt, numbers, Ready, Written, Judged, Filled};
+use list::LIST_CODE;
+use list::NUMBER;
+use list::ROW;
+use list::TERMINATOR;
+use numbers::u32_at;
+ghost use Rattle.list.specs.Kind.{kindOf};
+ghost use Rattle.list_decode.specs.Pieces.{elementPiece, listPiece, Written, Ready, ReadyTyped, Judged, Filled};
 
-// The numbers of a row.
-const ROW: usize = 3;
-
-fn put_row(rows: &mut [u32], at: usize, a: u32, b: u32, c: u32)
-    requires { ⌜ at + 3 ≤ length (now rows) ⌝ }
-    ensures { λ _. ⌜ now (rows .exit) ≡ sets (now (rows .entry)) at (a ∷ b ∷ c ∷ []) ⌝ }
+// A typed list: its row, then its elements.
+fn put_typed(s: &[u8], x: Cursor, code: u32, n: u32, rows: &mut [u8], store: &mut [u8]) -> Cursor
+    requires { ⌜ ReadyTyped (now s) code n x (now rows) (now store) ⌝ }
+    ensures { λ r. ⌜ Written x (listPiece (now (s .entry)) (kindOf code) n (x .used) (x .pos)) (now (rows .entry)) (now (store .entry)) r (now (rows .exit)) (now (store .exit)) ⌝ }
 {
-    rows[at] = a;
-    rows[at + 1] = b;
-    rows[at + 2] = c;
+    let y = put_plain(rows, x, LIST_CODE, n, 0, 2 * NUMBER);
+    put_run(s, y, code, n as usize, rows, store)
 }
 
-// Elements of one kind, one by one.
-fn put_each(s: &[u8], x: Place, kind: Kind, n: usize, rows: &mut [u32], store: &mut [u8]) -> Place
-    requires { ⌜ Ready numbers x (runAt (now s) (KindFound.Is kind) n (x .pos)) (now rows) (now store) ⌝ }
-    ensures { λ r. ⌜ Written numbers x (runAt (now (s .entry)) (KindFound.Is kind) n (x .pos)) (now (rows .entry)) (now (store .entry)) r (now (rows .exit)) (now (store .exit)) ⌝ }
+// An element that follows its code.
+fn put_element(s: &[u8], x: Cursor, rows: &mut [u8], store: &mut [u8]) -> Cursor
+    requires { ⌜ Ready (now s) x (now rows) (now store) ⌝ }
+    ensures { λ r. ⌜ Written x (elementPiece (now (s .entry)) (x .used) (x .pos)) (now (rows .entry)) (now (store .entry)) r (now (rows .exit)) (now (store .exit)) ⌝ }
 {
-    let mut pos = x.pos;
-    let mut row = x.row;
-    let mut used = x.used;
-    let mut left = n;
-    while 0 < left {
-        let e = value_item(s, used, pos, kind);
-        put_row(rows, row, e.a, e.b, e.c);
-        let len = e.len;
-        put_bytes(store, used, s, pos + NUMBER, len);
-        pos = e.next;
-        row += ROW;
-        used += len;
-        left -= 1;
-    }
-    Place { pos, row, used }
-}
-
-// A typed list's elements, in a loop for each kind; nothing behind another row.
-fn put_run(
-    s: &[u8],
-    x: Place,
-    run: KindFound,
-    n: usize,
-    rows: &mut [u32],
-    store: &mut [u8],
-) -> Place
-    requires { ⌜ Ready numbers x (runAt (now s) run n (x .pos)) (now rows) (now store) ⌝ }
-    ensures { λ r. ⌜ Written numbers x (runAt (now (s .entry)) run n (x .pos)) (now (rows .entry)) (now (store .entry)) r (now (rows .exit)) (now (store .exit)) ⌝ }
-{
-    match run {
-        KindFound::Unknown => x,
-        KindFound::Is(kind) => match kind {
-            Kind::Int => put_each(s, x, Kind::Int, n, rows, store),
-            Kind::Vocab => put_each(s, x, Kind::Vocab, n, rows, store),
-            Kind::Float => put_each(s, x, Kind::Float, n, rows, store),
-            Kind::Str => put_each(s, x, Kind::Str, n, rows, store),
-            Kind::Blob => put_each(s, x, Kind::Blob, n, rows, store),
-        },
+    let code = u32_at(s, x.pos);
+    let first = x.pos + NUMBER;
+    let behind = Cursor {
+        pos: first,
+        row: x.row,
+        used: x.used,
+    };
+    let second = u32_at(s, first);
+    match code {
+        Kind::INT => put_plain(rows, behind, Kind::INT, second, 0, NUMBER),
+        Kind::VOCAB => put_plain(rows, behind, Kind::VOCAB, second, 0, NUMBER),
+        Kind::FLOAT => put_plain(
+            rows,
+            behind,
+            Kind::FLOAT,
+            second,
+            u32_at(s, first + NUMBER),
+            2 * NUMBER,
+        ),
+        Kind::STR => put_stored(s, behind, Kind::STR, TERMINATOR, rows, store),
+        Kind::BLOB => put_stored(s, behind, Kind::BLOB, 0, rows, store),
+        LIST_CODE => put_plain(rows, x, LIST_CODE, second, 0, 2 * NUMBER),
+        _ => put_typed(s, x, code - LIST_CODE, second, rows, store),
     }
 }
 
-// The rows and the store bytes of the list of `end` bytes at the front; answers the number of rows.
-pub fn fill(s: &[u8], end: usize, rows: &mut [u32], store: &mut [u8]) -> u32
-    requires { ⌜ Judged numbers (now s) end (now rows) (now store) ⌝ }
-    ensures { λ r. ⌜ Filled numbers (now (s .entry)) (now (rows .entry)) (now (store .entry)) r (now (rows .exit)) (now (store .exit)) ⌝ }
+// The rows and the store bytes of the list of these bytes; answers the number of rows. An element takes its code and a number
+// or more: the loop tests for these, so that reading them needs no test of its own.
+pub fn fill(s: &[u8], rows: &mut [u8], store: &mut [u8]) -> u32
+    requires { ⌜ Judged (now s) (now rows) (now store) ⌝ }
+    ensures { λ r. ⌜ Filled (now (s .entry)) (now (rows .entry)) (now (store .entry)) r (now (rows .exit)) (now (store .exit)) ⌝ }
 {
     let mut pos: usize = 0;
     let mut row: usize = 0;
     let mut used: usize = 0;
-    while pos < end {
-        let e = element(s, used, pos);
-        put_row(rows, row, e.a, e.b, e.c);
-        let len = e.len;
-        put_bytes(store, used, s, pos + 2 * NUMBER, len);
-        let behind = Place {
-            pos: e.next,
-            row: row + ROW,
-            used: used + len,
-        };
-        let run = e.run;
-        let x = put_run(s, behind, run, e.count, rows, store);
+    while 2 * NUMBER <= s.len() - pos {
+        let x = put_element(s, Cursor { pos, row, used }, rows, store);
         pos = x.pos;
         row = x.row;
         used = x.used;

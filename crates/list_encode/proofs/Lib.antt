@@ -1,13 +1,5 @@
-pub mod Rows
-pub mod Shapes
-pub mod Walks
-pub mod Emits
-pub mod Accepted
-pub mod Described
-pub mod Depths
-pub mod Emitted
+pub mod Emission
 pub mod Encoding
-pub mod Legality
 pub mod RoundTrips
 pub mod ReadBack
 pub mod Cases

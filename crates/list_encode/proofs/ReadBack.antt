@@ -4,89 +4,69 @@ use mathlib.Core.Path.{_≡_, refl, sym, ap, _∙_}
 use mathlib.Core.Bool.{Bool, true, false, cond}
 use mathlib.Core.List.{List, _++_}
 use native.Mathlib.Omega.{arith}
-use lib.Dec.{eqb}
-use lib.ListN.{length, getD, take}
-use borrow.Author.Tests.{lt-ltb}
+use lib.ListN.{length, take}
 use Rattle.wire.specs.Number.{Bytes}
 use Rattle.wire.specs.Area.{over}
 use Rattle.list.specs.Limits.{listLimit}
-use Rattle.list.specs.Kind.{listCode}
-use Rattle.list.specs.Tree.{Elements, count}
+use Rattle.list.specs.Tree.{Elements}
 use Rattle.list.specs.Rows.{listRows, listStore, rowCount}
+use Rattle.list.specs.RowBytes.{packed, unpacked}
+use Rattle.list.specs.Refusal.{refusal}
 use Rattle.list.specs.Legal.{Legal}
 use Rattle.list.specs.Parse.{Parsed, good, bad, parse}
 use Rattle.list.proofs.RowBound.{row-numbers}
+use Rattle.list.proofs.RowBytes.{packed-length}
 use Rattle.list.proofs.Sound.{sound}
-use Rattle.list_decode.specs.declared.Decoded.{Decoded}
-use Rattle.list_decode.specs.declared.Decoded.the-variants as decoded
-use Rattle.list_decode.specs.Decode.{roomy, decodeOf}
+use Rattle.list_decode.specs.Decode.{Reading, roomy, decodingOf}
 use Rattle.list_decode.specs.Decode as reader
-use Rattle.list_decode.specs.Packed.{packed, packedRoomy, decodePackedOf}
-use Rattle.list_encode.specs.declared.Encoded.the-variants.{Written}
-use Rattle.list_encode.specs.Described.{Words}
-use Rattle.list_encode.specs.Shape.{listShape}
-use Rattle.list_encode.specs.Emit.{storedFrom}
-use Rattle.list_encode.specs.Encode.{outcome, encodeOf}
-use Rattle.list_encode.proofs.Rows.{both}
-use Rattle.list_encode.proofs.Shapes.{shape-stored}
-use Rattle.list_encode.proofs.Accepted.{shape-complete}
-use Rattle.list_encode.proofs.Legality.{writable-allowed, list-writable}
+use Rattle.list_rows.specs.Described.{rowWidth}
+use Rattle.list_rows.specs.Emit.{storedFrom}
+use Rattle.list_rows.proofs.Judging.{passes}
+use Rattle.list_rows.proofs.Legality.{legal-in}
+use Rattle.list_encode.specs.Encode.{written, outcome, encodingOf}
 use Rattle.list_encode.proofs.RoundTrips.{take-over, written-reads-back, read-writes-back}
 
--- the reader's outcome, by what `parse` finds; with the rows as numbers, and as bytes
+-- the reader's outcome, by what `parse` finds
 decodes :
     (s rows store : List ℕ) (es : Elements) (n : ℕ) → roomy rows store ≡ true → parse listLimit s ≡ good es n
-    → decodeOf s rows store ≡ reader.outcome (decoded.List n (rowCount es)) (over (listRows es) rows) (over (listStore es) store)
-unfolding decodeOf
+    → decodingOf s rows store ≡ reader.outcome (reader.accepted n (rowCount es)) (over (packed (listRows es)) rows) (over (listStore es) store)
+unfolding decodingOf
 decodes s rows store es n r p = rw (r, p)
 
-decodes-packed :
-    (s rows store : List ℕ) (es : Elements) (n : ℕ) → packedRoomy rows store ≡ true → parse listLimit s ≡ good es n
-    → decodePackedOf s rows store ≡ reader.outcome (decoded.List n (rowCount es)) (over (packed (listRows es)) rows) (over (listStore es) store)
-unfolding decodePackedOf
-decodes-packed s rows store es n r p = rw (r, p)
-
-rows-counted : (es : Elements) (rows : List ℕ) → listRows es ≡ rows → rowCount es ≡ length rows / 3
-rows-counted es rows h = omega (arith, row-numbers es, ap length h)
+rows-bytes : (es : Elements) → rowWidth * rowCount es ≡ length (packed (listRows es))
+rows-bytes es = omega (arith, row-numbers es, packed-length (listRows es))
 
 same-outcome : (n : ℕ) {k m : ℕ} {xs ys us vs : List ℕ} (rows store : List ℕ) → k ≡ m → xs ≡ ys → us ≡ vs
-    → reader.outcome (decoded.List n k) (over xs rows) (over us store) ≡ reader.outcome (decoded.List n m) (over ys rows) (over vs store)
+    → reader.outcome (reader.accepted n k) (over xs rows) (over us store) ≡ reader.outcome (reader.accepted n m) (over ys rows) (over vs store)
 same-outcome n rows store p q r = rw (p, q, r)
 
--- What was written, with anything behind it, is read back as the same rows and the same store bytes.
-module _ (rows store buffer rest : List ℕ) (n : ℕ) (w : Words rows) (b : Bytes store) (h : (encodeOf rows store buffer) .answer ≡ Written n) (rows′ store′ : List ℕ) where
-  -- LAW
-  pub written-decodes : roomy rows′ store′ ≡ true
-      → decodeOf (take n (encodeOf rows store buffer .buffer) ++ rest) rows′ store′
-      ≡ reader.outcome (decoded.List n (length rows / 3)) (over rows rows′) (over store store′)
-  written-decodes r =
-      let x = written-reads-back rows store buffer rest n w b h in
-      decodes _ rows′ store′ (x .0) n r (x .1) ∙ same-outcome n rows′ store′ (rows-counted (x .0) rows (x .2)) (x .2) (x .3)
-
-  -- LAW: the same for rows lent as bytes
-  pub written-decodes-packed : packedRoomy rows′ store′ ≡ true
-      → decodePackedOf (take n (encodeOf rows store buffer .buffer) ++ rest) rows′ store′
-      ≡ reader.outcome (decoded.List n (length rows / 3)) (over (packed rows) rows′) (over store store′)
-  written-decodes-packed r =
-      let x = written-reads-back rows store buffer rest n w b h in
-      decodes-packed _ rows′ store′ (x .0) n r (x .1) ∙ same-outcome n rows′ store′ (rows-counted (x .0) rows (x .2)) (ap packed (x .2)) (x .3)
+-- LAW: what was written, with anything behind it, is read back as the same rows and the same store bytes
+pub written-decodes :
+    (rows store buffer rest : List ℕ) (n : ℕ) → Bytes rows → Bytes store → encodingOf rows store buffer .result ≡ written n
+    → (rows′ store′ : List ℕ) → roomy rows′ store′ ≡ true
+    → decodingOf (take n (encodingOf rows store buffer .buffer) ++ rest) rows′ store′
+    ≡ reader.outcome (reader.accepted n (length rows / rowWidth)) (over rows rows′) (over store store′)
+written-decodes rows store buffer rest n w b h rows′ store′ r =
+    let x = written-reads-back rows store buffer rest n w b h in
+    let k : rowCount (x .0) ≡ length rows / rowWidth = omega (arith, rows-bytes (x .0), ap length (x .2)) in
+    decodes _ rows′ store′ (x .0) n r (x .1) ∙ same-outcome n rows′ store′ k (x .2) (x .3)
 
 -- what the reader answered for a list: of what list, and what its buffers hold
 record ListRead (s rows store : List ℕ) (n k : ℕ) : Type 0 where
   es : Elements
   parsed : parse listLimit s ≡ good es n
   many : k ≡ rowCount es
-  rows-are : decodeOf s rows store .rows ≡ over (listRows es) rows
-  store-is : decodeOf s rows store .store ≡ over (listStore es) store
+  rows-are : decodingOf s rows store .rows ≡ over (packed (listRows es)) rows
+  store-is : decodingOf s rows store .store ≡ over (listStore es) store
 
-list-read : (s rows store : List ℕ) (n k : ℕ) → (decodeOf s rows store) .answer ≡ decoded.List n k → ListRead s rows store n k
-unfolding decodeOf
+list-read : (s rows store : List ℕ) (n k : ℕ) → decodingOf s rows store .answer ≡ reader.accepted n k → ListRead s rows store n k
+unfolding decodingOf
 list-read s rows store n k h = go (roomy rows store) refl (parse listLimit s) refl h
   where
     go : (b : Bool) → roomy rows store ≡ b → (p : Parsed Elements) → parse listLimit s ≡ p
-        → (cond b (reader.answered rows store p) (reader.outcome (decoded.Refused 20 0) rows store)) .answer ≡ decoded.List n k → ListRead s rows store n k
+        → (cond b (reader.answered rows store p) (reader.outcome (reader.refused (refusal 20 0)) rows store)) .answer ≡ reader.accepted n k → ListRead s rows store n k
     go false e p q g = absurd (let z : _≡_ {A = ℕ} 0 1 = cc in omega arith)
-    go true e (bad error offset) q g = absurd (let z : _≡_ {A = ℕ} 0 1 = cc in omega arith)
+    go true e (bad r) q g = absurd (let z : _≡_ {A = ℕ} 0 1 = cc in omega arith)
     go true e (good es m) q g =
         let same : m ≡ n = cc in
         let rows-same : rowCount es ≡ k = cc in
@@ -95,29 +75,27 @@ list-read s rows store n k h = go (roomy rows store) refl (parse listLimit s) re
           es = es;
           parsed = q ∙ ap (good es) same;
           many = sym rows-same;
-          rows-are = ap (λ (o : reader.Outcome Decoded). o .rows) all;
-          store-is = ap (λ (o : reader.Outcome Decoded). o .store) all;
+          rows-are = ap (λ (o : reader.Outcome Reading). o .rows) all;
+          store-is = ap (λ (o : reader.Outcome Reading). o .store) all;
         }
 
 -- the strings and blobs of a legal list's rows have as many bytes as its store
-stored-is : (es : Elements) → Legal listLimit es → storedFrom (listRows es) ≡ length (listStore es)
-unfolding listShape
-stored-is es l =
-    let w = list-writable listLimit es (omega arith) l in
-    let shaped = shape-complete es (lt-ltb (count es) 2147483648 (w .0 .0)) (writable-allowed es (w .0 .1)) in
-    omega (arith, shape-stored (listStore es) (listRows es) 1 0 (both (eqb (getD (listRows es) 0 0) listCode) _ shaped .1))
+stored-is : (es : Elements) → Legal listLimit es → storedFrom (unpacked (packed (listRows es))) ≡ length (listStore es)
+stored-is es l = passes (packed (listRows es)) (listStore es) es (legal-in es l) .used
 
 -- LAW: the rows that the reader filled and the store bytes that they use are written as the bytes that were read
 pub decoded-encodes :
-    (s rows store buffer : List ℕ) (n k : ℕ) → Bytes s → listLimit ≤ length buffer → (decodeOf s rows store) .answer ≡ decoded.List n k
-    → encodeOf (take (3 * k) (decodeOf s rows store .rows)) (take (storedFrom (take (3 * k) (decodeOf s rows store .rows))) (decodeOf s rows store .store)) buffer
-    ≡ outcome (Written n) (over (take n s) buffer)
+    (s rows store buffer : List ℕ) (n k : ℕ) → Bytes s → listLimit ≤ length buffer → decodingOf s rows store .answer ≡ reader.accepted n k
+    → encodingOf (take (rowWidth * k) (decodingOf s rows store .rows))
+    (take (storedFrom (unpacked (take (rowWidth * k) (decodingOf s rows store .rows)))) (decodingOf s rows store .store)) buffer
+    ≡ outcome (written n) (over (take n s) buffer)
 decoded-encodes s rows store buffer n k b room h =
     let x = list-read s rows store n k h in
     let es : Elements = x .es in
     let l = sound listLimit s es n b (x .parsed) in
-    let size : 3 * k ≡ length (listRows es) = ap (λ (z : ℕ). 3 * z) (x .many) ∙ row-numbers es in
-    let rows-back : take (3 * k) (decodeOf s rows store .rows) ≡ listRows es = ap (take (3 * k)) (x .rows-are) ∙ take-over (listRows es) rows (3 * k) size in
-    let used : ℕ = storedFrom (listRows es) in
-    let store-back : take used (decodeOf s rows store .store) ≡ listStore es = ap (take used) (x .store-is) ∙ take-over (listStore es) store used (stored-is es (l .0)) in
+    let size : rowWidth * k ≡ length (packed (listRows es)) = ap (λ (z : ℕ). rowWidth * z) (x .many) ∙ rows-bytes es in
+    let rows-back : take (rowWidth * k) (decodingOf s rows store .rows) ≡ packed (listRows es) =
+    ap (take (rowWidth * k)) (x .rows-are) ∙ take-over (packed (listRows es)) rows (rowWidth * k) size in
+    let used : ℕ = storedFrom (unpacked (packed (listRows es))) in
+    let store-back : take used (decodingOf s rows store .store) ≡ listStore es = ap (take used) (x .store-is) ∙ take-over (listStore es) store used (stored-is es (l .0)) in
     rw (rows-back, store-back) (read-writes-back s buffer es n b room (x .parsed))

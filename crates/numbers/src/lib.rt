@@ -1,6 +1,7 @@
 // Numbers as bytes, low byte first. Every function answers for every input.
 ghost use Prim.Native.Nat.{_+_, _*_};
 ghost use mathlib.Core.Path.{_≡_};
+ghost use mathlib.Core.List.{_++_};
 ghost use Rattle.wire.specs.Number.{leBytes, numberAt};
 ghost use Rattle.wire.specs.Area.{putAt};
 use wire::byte_at;
@@ -103,4 +104,11 @@ pub fn put_u64(dst: &mut [u8], at: usize, x: u64)
 {
     let b = bytes64(x);
     copy_at(dst, at, &b);
+}
+
+// Two numbers, the second behind the first, where both fit; else nothing changes.
+pub fn put_two_u32(dst: &mut [u8], at: usize, x: u32, y: u32)
+    ensures { λ _. ⌜ now (dst .exit) ≡ putAt (now (dst .entry)) at (leBytes 4 x ++ leBytes 4 y) ⌝ }
+{
+    put_u64(dst, at, join64(x, y));
 }

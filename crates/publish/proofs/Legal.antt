@@ -1,5 +1,5 @@
 -- The published list of a lawful table is a legal list, and reading it back gives it whole.
-use Prim.Native.Nat.{ℕ, zero, suc, _+_, _≤_, _<_, _^_}
+use Prim.Native.Nat.{ℕ, zero, suc, _+_, _-_, _≤_, _<_, _^_}
 use mathlib.Core.Path.{_≡_, refl}
 use mathlib.Core.Bool.{Bool, true, false}
 use mathlib.Core.List.{List, _++_}
@@ -7,7 +7,7 @@ use native.Mathlib.Omega.{arith}
 use lib.ListN.{length, drop}
 use Rattle.wire.specs.Area.{over}
 use Rattle.wire.proofs.Numbers.{leBytes-bytes}
-use Rattle.list.specs.Limits.{listLimit}
+use Rattle.list.specs.Limits.{listLimit, depthLimit}
 use Rattle.list.specs.Bytes.{listBytes}
 use Rattle.list.specs.Legal.{LegalElements, Legal}
 use Rattle.list.specs.Parse.{parse, good}
@@ -29,32 +29,32 @@ pub record RangedSlot (s : Slot) : Type 0 where
   pub device-byte : s .device < 256
   pub words : (p : ℕ) → bitsAt s p < 2 ^ 32
 
-parameters-legal : (n : ℕ) (c : List ℕ) (s : Slot) (p : ℕ) → RangedSlot s → p + n ≤ paramCount → LegalElements 6 (parametersFrom n c s p)
+parameters-legal : (n : ℕ) (c : List ℕ) (s : Slot) (p : ℕ) → RangedSlot s → p + n ≤ paramCount → LegalElements (depthLimit - 2) (parametersFrom n c s p)
 unfolding parametersFrom
 parameters-legal zero c s p r h = tt
 parameters-legal (suc n) c s p r h = go (presentAt s p) (parameters-legal n c s (p + 1) r (omega arith))
   where
     go :
-        (b : Bool) → LegalElements 6 (parametersFrom n c s (p + 1)) →
-        LegalElements 6 (listIf b (pair p (elementOf (heldValue c s p))) (parametersFrom n c s (p + 1)))
+        (b : Bool) → LegalElements (depthLimit - 2) (parametersFrom n c s (p + 1)) →
+        LegalElements (depthLimit - 2) (listIf b (pair p (elementOf (heldValue c s p))) (parametersFrom n c s (p + 1)))
     go false l = l
     go true l = ((omega arith, (element-legal (parameterOf c (s .device) p .kind) (bitsAt s p) (r .words p), tt)), l)
 
-device-legal : (c : List ℕ) (s : Slot) → RangedSlot s → s .socket < socketCount → LegalElements 6 (device c s)
+device-legal : (c : List ℕ) (s : Slot) → RangedSlot s → s .socket < socketCount → LegalElements (depthLimit - 2) (device c s)
 unfolding device
 device-legal c s r h =
     (omega arith, (omega (arith, r .device-byte), (leBytes-bytes 8 (s .uid), parameters-legal paramCount c s 0 r (omega arith))))
 
 devices-legal :
     (n : ℕ) (c : List ℕ) (t : Table) (socket : ℕ) → ((i : ℕ) → i < slotCount → RangedSlot (slotAt t i)) → socket + n ≤ socketCount →
-    LegalElements 7 (devicesFrom n c t socket)
+    LegalElements (depthLimit - 1) (devicesFrom n c t socket)
 unfolding devicesFrom rowBefore
 devices-legal zero c t socket r h = tt
 devices-legal (suc n) c t socket r h = go (slotOf t socket) refl (devices-legal n c t (socket + 1) r (omega arith))
   where
     go :
-        (p : Place) → slotOf t socket ≡ p → LegalElements 7 (devicesFrom n c t (socket + 1)) →
-        LegalElements 7 (rowBefore c t p (devicesFrom n c t (socket + 1)))
+        (p : Place) → slotOf t socket ≡ p → LegalElements (depthLimit - 1) (devicesFrom n c t (socket + 1)) →
+        LegalElements (depthLimit - 1) (rowBefore c t p (devicesFrom n c t (socket + 1)))
     go Nowhere e l = l
     go (At i) e l =
         let f = slot-found t socket i e in

@@ -6,11 +6,11 @@ use native.Mathlib.Omega.{arith}
 use native.Mathlib.Nat.{add-zero}
 use lib.ListN.{length, length-append}
 use lib.Seq.{sets, length-sets}
+use Rattle.wire.proofs.Buffers.{sets-more}
 use Rattle.list.specs.Kind.{listCode}
 use Rattle.list.specs.Tree.{Elements, none, list, count}
 use Rattle.list.specs.Bytes.{elementBytes}
 use Rattle.publish.specs.Put.{Room, Put}
-use Rattle.publish.proofs.Stores.{sets-more}
 use Rattle.publish.proofs.Pieces.{list-bytes}
 
 -- `done` lists of `whole` are put into `old` from `at` on, which gave `new` up to `end`; `rest` is left

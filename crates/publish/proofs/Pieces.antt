@@ -9,6 +9,7 @@ use lib.ListN.{length, getD, length-append}
 use lib.Seq.{sets}
 use Rattle.wire.specs.Area.{over}
 use Rattle.wire.specs.Number.{leBytes}
+use Rattle.wire.proofs.Buffers.{sets-front}
 use Rattle.list.specs.Kind.{listCode, typedCode, codeOf}
 use Rattle.list.specs.declared.Kind.the-variants as kinds
 use Rattle.list.specs.Tree as tree
@@ -30,7 +31,7 @@ use Rattle.table.specs.declared.Place.{Place}
 use Rattle.table.specs.declared.Place.the-variants.{At, Nowhere}
 use Rattle.publish.specs.Put.{Put, front}
 use Rattle.publish.specs.Published.{double, elementOf, heldValue, pair, parametersFrom, device, rowBefore, devicesFrom, published}
-use Rattle.publish.proofs.Stores.{put-as, put-before, sets-front}
+use Rattle.publish.proofs.Stores.{put-as, put-before}
 
 -- a parameter that becomes a NetInt: a typed list
 pub int-pair : (p x : ℕ) → elementBytes listCode (list (pair p (int x)) none) ≡ (number (typedCode kinds.Int) ++ number 2) ++ (number p ++ number x)

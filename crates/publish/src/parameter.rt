@@ -1,13 +1,12 @@
 // A held parameter as a list of its index and value.
 use list::Kind;
 use list::LIST_CODE;
+use numbers::put_two_u32;
 use value::Value;
 ghost use Prim.Native.Nat.{_+_, _≤_};
 ghost use mathlib.Core.Path.{_≡_};
 ghost use mathlib.Core.Bool.{cond};
-ghost use mathlib.Core.List.{_++_};
 ghost use lib.ListN.{length};
-ghost use lib.Seq.{sets};
 ghost use mir.Syntax.{w32};
 ghost use mir.Val.{ofZ};
 ghost use Rattle.list.specs.Kind.{listCode};
@@ -39,29 +38,13 @@ fn flag_bits(flag: bool) -> u32
     0
 }
 
-// A number, or two of them. There is room for what each of these functions writes.
-fn put_number(buffer: &mut [u8], at: usize, x: u32)
-    requires { ⌜ at + 4 ≤ length (now buffer) ⌝ }
-    ensures { λ _. ⌜ now (buffer .exit) ≡ sets (now (buffer .entry)) at (number x) ⌝ }
-{
-    numbers::put_u32(buffer, at, x);
-}
-
-pub fn put_two(buffer: &mut [u8], at: usize, x: u32, y: u32)
-    requires { ⌜ at + 8 ≤ length (now buffer) ⌝ }
-    ensures { λ _. ⌜ now (buffer .exit) ≡ sets (now (buffer .entry)) at (number x ++ number y) ⌝ }
-{
-    put_number(buffer, at, x);
-    put_number(buffer, at + 4, y);
-}
-
 // Index and value are both NetInts: the list has their code, and they carry none.
 fn put_int_pair(buffer: &mut [u8], at: usize, index: u32, x: u32) -> usize
     requires { ⌜ at + 16 ≤ length (now buffer) ⌝ }
     ensures { λ r. ⌜ Put (now (buffer .entry)) at (elementBytes listCode (list (pair index (int x)) none)) (now (buffer .exit)) r ⌝ }
 {
-    put_two(buffer, at, LIST_CODE + Kind::INT, PAIR);
-    put_two(buffer, at + 8, index, x);
+    put_two_u32(buffer, at, LIST_CODE + Kind::INT, PAIR);
+    put_two_u32(buffer, at + 8, index, x);
     at + 16
 }
 
@@ -70,10 +53,10 @@ fn put_double_pair(buffer: &mut [u8], at: usize, index: u32, bits: u64) -> usize
     requires { ⌜ at + 28 ≤ length (now buffer) ⌝ }
     ensures { λ r. ⌜ Put (now (buffer .entry)) at (elementBytes listCode (list (pair index (double bits)) none)) (now (buffer .exit)) r ⌝ }
 {
-    put_two(buffer, at, LIST_CODE, PAIR);
-    put_two(buffer, at + 8, Kind::INT, index);
-    put_number(buffer, at + 16, Kind::FLOAT);
-    put_two(
+    put_two_u32(buffer, at, LIST_CODE, PAIR);
+    put_two_u32(buffer, at + 8, Kind::INT, index);
+    numbers::put_u32(buffer, at + 16, Kind::FLOAT);
+    put_two_u32(
         buffer,
         at + 20,
         (bits % 0x1_0000_0000) as u32,

@@ -1,8 +1,8 @@
 // The rows of the list. A list's code and count are written once its elements stand behind them and are counted.
 use super::parameter::put_parameter;
-use super::parameter::put_two;
 use list::Kind;
 use list::LIST_CODE;
+use numbers::put_two_u32;
 use table::PARAMS;
 use table::Place;
 use table::SOCKETS;
@@ -68,7 +68,7 @@ fn put_uid(buffer: &mut [u8], at: usize, uid: u64)
     requires { ⌜ at + 16 ≤ length (now buffer) ⌝ }
     ensures { λ _. ⌜ now (buffer .exit) ≡ sets (now (buffer .entry)) at (number (codeOf Blob) ++ (number 8 ++ leBytes 8 uid)) ⌝ }
 {
-    put_two(buffer, at, Kind::BLOB, UID_BYTES);
+    put_two_u32(buffer, at, Kind::BLOB, UID_BYTES);
     numbers::put_u64(buffer, at + 8, uid);
 }
 
@@ -77,9 +77,9 @@ fn put_front(buffer: &mut [u8], at: usize, s: Slot, held: u32)
     requires { ⌜ (at + 40 ≤ length (now buffer)) × (held ≤ 32) ⌝ }
     ensures { λ _. ⌜ now (buffer .exit) ≡ sets (now (buffer .entry)) at (front s held) ⌝ }
 {
-    put_two(buffer, at, LIST_CODE, ROW_FIXED + held);
-    put_two(buffer, at + 8, Kind::INT, s.socket as u32);
-    put_two(buffer, at + 16, Kind::INT, s.device as u32);
+    put_two_u32(buffer, at, LIST_CODE, ROW_FIXED + held);
+    put_two_u32(buffer, at + 8, Kind::INT, s.socket as u32);
+    put_two_u32(buffer, at + 16, Kind::INT, s.device as u32);
     put_uid(buffer, at + 24, s.uid);
 }
 
@@ -121,6 +121,6 @@ pub fn put_list(c: &[u8], t: Table, buffer: &mut [u8]) -> usize
         × (r ≡ length (listBytes (published (now (c .entry)) t))) ⌝ }
 {
     let x = put_devices(c, t, buffer, LIST_FRONT);
-    put_two(buffer, 0, LIST_CODE, x.count);
+    put_two_u32(buffer, 0, LIST_CODE, x.count);
     x.end
 }

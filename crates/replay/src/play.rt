@@ -12,11 +12,12 @@ use hub::Published;
 use hub::Receipt;
 use hub::Table;
 use list::LIST_LIMIT;
+use output::LIST_LINE_ROOM;
 ghost use mathlib.Core.Path.{_≡_};
 ghost use Rattle.replay.specs.Record.{recordSize, Whole};
 
 // Output is collected, and written when less room is left than a line may take.
-const OUTPUT_ROOM: usize = 32768;
+const OUTPUT_ROOM: usize = 4 * LIST_LINE_ROOM;
 
 // The table and the bytes of output after a record.
 struct Played {
@@ -26,8 +27,8 @@ struct Played {
 
 fn put_receipt(out: &mut [u8], used: usize, a: Receipt) -> usize {
     match a {
-        Receipt::Accepted(n) => text::put_line(out, used, b"took ", n as u64),
-        Receipt::Refused(error) => text::put_line(out, used, b"refused ", error as u64),
+        Receipt::Accepted(n) => output::put_line(out, used, b"took ", n as u64),
+        Receipt::Refused(error) => output::put_line(out, used, b"refused ", error as u64),
     }
 }
 
@@ -51,8 +52,8 @@ fn receive(
 
 fn put_detached(out: &mut [u8], used: usize, a: Answer) -> usize {
     match a {
-        Answer::Accepted => text::put(out, used, b"left\n"),
-        Answer::Refused(error) => text::put_line(out, used, b"refused ", error as u64),
+        Answer::Accepted => output::put(out, used, b"left\n"),
+        Answer::Refused(error) => output::put_line(out, used, b"refused ", error as u64),
     }
 }
 
@@ -74,10 +75,10 @@ fn read(catalogue: &[u8], t: Table, socket: u8, index: u8, out: &mut [u8], used:
 }
 
 fn put_published(out: &mut [u8], used: usize, list: &[u8], n: usize) -> usize {
-    let a = text::put_number(&mut *out, used, b"posted ", n as u64);
-    let b = text::put(&mut *out, a, b" ");
-    let c = text::put_front(&mut *out, b, list, n);
-    text::put(&mut *out, c, b"\n")
+    let a = output::put_number(&mut *out, used, b"posted ", n as u64);
+    let b = output::put(&mut *out, a, b" ");
+    let c = output::put_front(&mut *out, b, list, n);
+    output::put(&mut *out, c, b"\n")
 }
 
 fn publish(catalogue: &[u8], t: Table, out: &mut [u8], used: usize) -> usize {
@@ -85,7 +86,7 @@ fn publish(catalogue: &[u8], t: Table, out: &mut [u8], used: usize) -> usize {
     let p = hub::publish(catalogue, t, &mut list);
     match p {
         Published::Written(n) => put_published(out, used, &list, n),
-        Published::Refused(error) => text::put_line(out, used, b"refused ", error as u64),
+        Published::Refused(error) => output::put_line(out, used, b"refused ", error as u64),
     }
 }
 
@@ -96,14 +97,14 @@ fn show_list(catalogue: &[u8], t: Table, out: &mut [u8], used: usize) -> Played 
 
 fn load(record: &[u8], out: &mut [u8], used: usize) -> Played {
     let t = table_bytes::table_in(record);
-    let n = text::put(out, used, b"loaded\n");
+    let n = output::put(out, used, b"loaded\n");
     Played { table: t, used: n }
 }
 
 fn show_table(t: Table, out: &mut [u8], used: usize) -> Played {
-    let a = text::put(&mut *out, used, b"table ");
+    let a = output::put(&mut *out, used, b"table ");
     let b = table_bytes::put_table(&mut *out, a, t);
-    let c = text::put(&mut *out, b, b"\n");
+    let c = output::put(&mut *out, b, b"\n");
     Played { table: t, used: c }
 }
 
@@ -135,7 +136,7 @@ fn play_all(catalogue: &[u8], records: &[u8], out: &mut [u8]) {
     let mut at: usize = 0;
     let mut k: usize = 1;
     while at < records.len() {
-        used = text::flush_if_full(&*out, used);
+        used = output::flush_if_full(&*out, used);
         if record::is_good(&records[at..]) {
             let size = record::size_of(&records[at..]);
             let p = play(catalogue, t, &records[at..], size, &mut *out, used);
@@ -144,12 +145,12 @@ fn play_all(catalogue: &[u8], records: &[u8], out: &mut [u8]) {
             at += size;
             k += 1;
         } else {
-            used = text::put_line(&mut *out, used, b"bad record ", k as u64);
-            text::flush(&*out, used);
+            used = output::put_line(&mut *out, used, b"bad record ", k as u64);
+            output::flush(&*out, used);
             return;
         }
     }
-    text::flush(&*out, used);
+    output::flush(&*out, used);
 }
 
 // Replays an input: the catalogue behind its two-byte length, then records. Where the catalogue is cut short there are none.

@@ -20,7 +20,7 @@ fn put_presence(out: &mut [u8], used: usize, s: Slot) -> usize {
     let mut p: usize = 0;
     while p < hub::PARAMS {
         let b = [flag_byte(s.present[p])];
-        at = text::put_bytes(&mut *out, at, &b);
+        at = output::put_bytes(&mut *out, at, &b);
         p += 1;
     }
     at
@@ -31,7 +31,7 @@ fn put_bits(out: &mut [u8], used: usize, s: Slot) -> usize {
     let mut p: usize = 0;
     while p < hub::PARAMS {
         let b = numbers::bytes32(s.bits[p]);
-        at = text::put_bytes(&mut *out, at, &b);
+        at = output::put_bytes(&mut *out, at, &b);
         p += 1;
     }
     at
@@ -39,9 +39,9 @@ fn put_bits(out: &mut [u8], used: usize, s: Slot) -> usize {
 
 fn put_slot(out: &mut [u8], used: usize, s: Slot) -> usize {
     let front = [flag_byte(s.taken), s.socket, s.device, s.year];
-    let at = text::put_bytes(&mut *out, used, &front);
+    let at = output::put_bytes(&mut *out, used, &front);
     let uid = numbers::bytes64(s.uid);
-    let behind_uid = text::put_bytes(&mut *out, at, &uid);
+    let behind_uid = output::put_bytes(&mut *out, at, &uid);
     let behind_presence = put_presence(&mut *out, behind_uid, s);
     put_bits(&mut *out, behind_presence, s)
 }

@@ -14,22 +14,22 @@ fn magnitude(i: i32) -> u32 {
 
 fn put_int(out: &mut [u8], used: usize, i: i32) -> usize {
     if i < 0 {
-        return text::put_line(out, used, b"int -", magnitude(i) as u64);
+        return output::put_line(out, used, b"int -", magnitude(i) as u64);
     }
-    text::put_line(out, used, b"int ", magnitude(i) as u64)
+    output::put_line(out, used, b"int ", magnitude(i) as u64)
 }
 
 fn put_float(out: &mut [u8], used: usize, bits: u32) -> usize {
-    let a = text::put(&mut *out, used, b"float ");
-    let b = text::put_word(&mut *out, a, bits);
-    text::put(&mut *out, b, b"\n")
+    let a = output::put(&mut *out, used, b"float ");
+    let b = output::put_word(&mut *out, a, bits);
+    output::put(&mut *out, b, b"\n")
 }
 
 fn put_flag(out: &mut [u8], used: usize, flag: bool) -> usize {
     if flag {
-        return text::put(out, used, b"flag 1\n");
+        return output::put(out, used, b"flag 1\n");
     }
-    text::put(out, used, b"flag 0\n")
+    output::put(out, used, b"flag 0\n")
 }
 
 // The bits of a float. A NaN does not keep them, and comes as its bits instead.
@@ -52,13 +52,13 @@ fn put_value(out: &mut [u8], used: usize, v: Value) -> usize {
 fn put_content(out: &mut [u8], used: usize, c: Content) -> usize {
     match c {
         Content::Held(v) => put_value(out, used, v),
-        Content::Absent => text::put(out, used, b"absent\n"),
+        Content::Absent => output::put(out, used, b"absent\n"),
     }
 }
 
 pub fn put_reading(out: &mut [u8], used: usize, r: Reading) -> usize {
     match r {
         Reading::Found(c) => put_content(out, used, c),
-        Reading::Refused(error) => text::put_line(out, used, b"refused ", error as u64),
+        Reading::Refused(error) => output::put_line(out, used, b"refused ", error as u64),
     }
 }

@@ -1,21 +1,21 @@
--- Text is put together piece by piece: one piece, two in a row, a label with a number, and a line.
+-- Output is put together piece by piece: one piece, two in a row, a label with a number, and a line.
 use Prim.Native.Nat.{ℕ, _+_, _≤_}
 use mathlib.Core.Path.{_≡_, refl, ap, _∙_}
 use mathlib.Core.List.{List, [], _∷_, _++_, append-assoc}
 use native.Mathlib.Omega.{arith}
 use lib.ListN.{length, take, drop, length-append}
 use lib.Seq.{sets, sets-eq, take-at, length-take-le}
-use Rattle.text.specs.Digits.{decimal, digitRoom}
-use Rattle.text.specs.Text.{Text, text, put, puts, newline}
-use Rattle.text.proofs.Putting.{put-fits, length-puts}
-use Rattle.text.proofs.Digits.{decimal-short}
+use Rattle.output.specs.Digits.{decimal, digitRoom}
+use Rattle.output.specs.Output.{Output, output, put, puts, newline}
+use Rattle.output.proofs.Putting.{put-fits, length-puts}
+use Rattle.output.proofs.Digits.{decimal-short}
 use Rattle.run.specs.Added.{Added}
 
-pub one-piece : {old new : List ℕ} {at to : ℕ} (x : List ℕ) → text new to ≡ put (text old at) x → at + length x ≤ length old → Added old at new to x
+pub one-piece : {old new : List ℕ} {at to : ℕ} (x : List ℕ) → output new to ≡ put (output old at) x → at + length x ≤ length old → Added old at new to x
 one-piece {old} {new} {at} {to} x e h =
-    let done : text new to ≡ text (sets old at x) (at + length x) = e ∙ put-fits old at x h in
-    let size : to ≡ at + length x = ap (λ (t : Text). t .used) done in
-    let whole : new ≡ (take at old ++ x) ++ drop (at + length x) old = ap (λ (t : Text). t .buffer) done ∙ sets-eq x old at h in
+    let done : output new to ≡ output (sets old at x) (at + length x) = e ∙ put-fits old at x h in
+    let size : to ≡ at + length x = ap (λ (t : Output). t .used) done in
+    let whole : new ≡ (take at old ++ x) ++ drop (at + length x) old = ap (λ (t : Output). t .buffer) done ∙ sets-eq x old at h in
     let front : length (take at old ++ x) ≡ to = omega (arith, size, length-append (take at old) x, length-take-le at old (omega arith)) in
     record { front = ap (take to) whole ∙ take-at (take at old ++ x) (drop (at + length x) old) to front; size = size }
 
@@ -26,23 +26,23 @@ two-pieces {a} {i = i} {x = x} {y = y} p q = record {
 }
 
 -- a label and a number
-pub number-added : {old new : List ℕ} {at to : ℕ} (label : List ℕ) (n : ℕ) → text new to ≡ puts (text old at) (label ∷ decimal n ∷ [])
+pub number-added : {old new : List ℕ} {at to : ℕ} (label : List ℕ) (n : ℕ) → output new to ≡ puts (output old at) (label ∷ decimal n ∷ [])
     → at + length label + digitRoom ≤ length old → Added old at new to (label ++ decimal n) × (to ≤ at + length label + digitRoom)
 unfolding puts
 number-added {old} {new} {at} {to} label n e h =
-    let t : Text = put (text old at) label in
+    let t : Output = put (output old at) label in
     let first : Added old at (t .buffer) (t .used) label = one-piece label refl (omega arith) in
-    let same : length (t .buffer) ≡ length old = length-puts (text old at) (label ∷ []) in
+    let same : length (t .buffer) ≡ length old = length-puts (output old at) (label ∷ []) in
     let second : Added (t .buffer) (t .used) new to (decimal n) = one-piece (decimal n) e (omega (arith, first .size, same, decimal-short n)) in
     (two-pieces first second, omega (arith, first .size, second .size, decimal-short n))
 
 -- a label, a number and the end of the line
-pub line-added : {old new : List ℕ} {at to : ℕ} (label : List ℕ) (n : ℕ) → text new to ≡ puts (text old at) (label ∷ decimal n ∷ newline ∷ [])
+pub line-added : {old new : List ℕ} {at to : ℕ} (label : List ℕ) (n : ℕ) → output new to ≡ puts (output old at) (label ∷ decimal n ∷ newline ∷ [])
     → at + length label + digitRoom + 1 ≤ length old → Added old at new to ((label ++ decimal n) ++ newline) × (to ≤ at + length label + digitRoom + 1)
 unfolding puts
 line-added {old} {new} {at} {to} label n e h =
-    let t : Text = puts (text old at) (label ∷ decimal n ∷ []) in
+    let t : Output = puts (output old at) (label ∷ decimal n ∷ []) in
     let first = number-added {new = t .buffer} {to = t .used} label n refl (omega arith) in
-    let same : length (t .buffer) ≡ length old = length-puts (text old at) (label ∷ decimal n ∷ []) in
+    let same : length (t .buffer) ≡ length old = length-puts (output old at) (label ∷ decimal n ∷ []) in
     let second : Added (t .buffer) (t .used) new to newline = one-piece newline e (omega (arith, first .1, same)) in
     (two-pieces (first .0) second, omega (arith, first .1, second .size))

@@ -12,7 +12,7 @@ use Rattle.wire.specs.Number.{Bytes}
 use Rattle.list.specs.Tree.{Elements}
 use Rattle.list.specs.Bytes.{listBytes}
 use Rattle.list.specs.Rows.{rowCount}
-use Rattle.stream.specs.declared.Step.the-variants as step
+use Rattle.stream.specs.Step.{accepted}
 use Rattle.stream.specs.Run.{LegalRun, runBytes, StartsNone, behind}
 use Rattle.stream.proofs.Runs.{some-bytes, reads-front}
 use Rattle.stream.proofs.Handing.{Closed, closed}
@@ -21,7 +21,7 @@ use Rattle.run.specs.Text.{listLine, listLines, lastLine, tooLong, print
 
 -- the answer where a legal list stands, and behind the run
 answer-list : (s : List ℕ) (offset : ℕ) (es : Elements) (x : List ℕ) → offset < length s → drop offset s ≡ listBytes es ++ x
-    → LegalRun (es ∷ []) → answerAt s offset ≡ step.List (length (listBytes es)) (rowCount es)
+    → LegalRun (es ∷ []) → answerAt s offset ≡ accepted (length (listBytes es)) (rowCount es)
 unfolding answerAt
 answer-list s offset es x f h l = rw (ne-eqb offset (length s) (λ e. omega arith), h, reads-front es x (l .0))
 
@@ -31,9 +31,9 @@ unfolding textFrom answerAt
 line-behind s offset k fuel [] w f h = rw (eq-eqb offset (length s) (omega (arith, simp length-drop at (ap length h))))
 line-behind s offset k fuel (b ∷ rest) w f h =
     let inside : offset < length s = omega (arith, simp length-drop at (ap length h)) in
-    rw (ne-eqb offset (length s) (λ e. omega arith), h, w .2)
+    rw (ne-eqb offset (length s) (λ e. omega arith), h, w .1)
 
-first-line : (s : List ℕ) (offset k fuel n rows : ℕ) → answerAt s offset ≡ step.List n rows
+first-line : (s : List ℕ) (offset k fuel n rows : ℕ) → answerAt s offset ≡ accepted n rows
     → textFrom (suc fuel) s offset k ≡ listLine k n rows ++ textFrom fuel s (offset + n) (suc k)
 unfolding textFrom
 first-line s offset k fuel n rows a = rw a

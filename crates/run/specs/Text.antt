@@ -8,11 +8,11 @@ use Rattle.list.specs.Limits.{listLimit}
 use Rattle.list.specs.Tree.{Elements}
 use Rattle.list.specs.Bytes.{listBytes}
 use Rattle.list.specs.Rows.{rowCount}
+use Rattle.list.specs.Refusal.{Refusal, moved}
 use Rattle.list.specs.Parse.{Parsed, good, bad, parse}
-use Rattle.stream.specs.declared.Step.{Step}
-use Rattle.stream.specs.declared.Step.the-variants as step
+use Rattle.stream.specs.Step.{Found, accepted, ended, refused}
 use Rattle.stream.specs.Run.{runBytes, behind}
-use Rattle.text.specs.Digits.{decimal}
+use Rattle.output.specs.Digits.{decimal}
 use Rattle.run.specs.Limits.{inputLimit}
 
 -- `list 1 bytes 40 rows 9`
@@ -28,9 +28,9 @@ unfoldable pub endLine : ℕ → List ℕ
 endLine offset = ((101 ∷ 110 ∷ 100 ∷ 32 ∷ []) ++ decimal offset) ++ (10 ∷ [])
 
 -- `stop 21 at 112`
-unfoldable pub stopLine : ℕ → ℕ → List ℕ
-stopLine error offset =
-    ((115 ∷ 116 ∷ 111 ∷ 112 ∷ 32 ∷ []) ++ decimal error) ++ (((32 ∷ 97 ∷ 116 ∷ 32 ∷ []) ++ decimal offset) ++ (10 ∷ []))
+unfoldable pub stopLine : Refusal → List ℕ
+stopLine r =
+    ((115 ∷ 116 ∷ 111 ∷ 112 ∷ 32 ∷ []) ++ decimal (r .number)) ++ (((32 ∷ 97 ∷ 116 ∷ 32 ∷ []) ++ decimal (r .offset)) ++ (10 ∷ []))
 
 -- `too long`
 unfoldable pub tooLong : List ℕ
@@ -42,27 +42,27 @@ listLines k [] = []
 listLines k (es ∷ run) = listLine k (length (listBytes es)) (rowCount es) ++ listLines (suc k) run
 
 -- the line of the answer behind a run of `size` bytes
-abbrev pub lastLine : ℕ → Step → List ℕ
-lastLine size step.End = endLine size
-lastLine size (step.Refused error offset) = stopLine error offset
-lastLine size (step.List consumed rows) = []
+abbrev pub lastLine : ℕ → Found → List ℕ
+lastLine size ended = endLine size
+lastLine size (refused r) = stopLine r
+lastLine size (accepted consumed rows) = []
 
 -- what is printed for a run and the bytes that follow it
 abbrev pub printed : List Elements → List ℕ → List ℕ
 printed run rest = listLines 1 run ++ lastLine (length (runBytes run)) (behind (length (runBytes run)) rest)
 
 -- Internal: the same by steps, as the program takes them; `proofs/Lines.antt` ties the two.
-abbrev pub answerOf : ℕ → Parsed Elements → Step
-answerOf offset (good es consumed) = step.List consumed (rowCount es)
-answerOf offset (bad error at) = step.Refused error (offset + at)
+abbrev pub answerOf : ℕ → Parsed Elements → Found
+answerOf offset (good es consumed) = accepted consumed (rowCount es)
+answerOf offset (bad r) = refused (moved offset r)
 
-unfoldable pub answerAt : List ℕ → ℕ → Step
-answerAt s offset = cond (eqb offset (length s)) step.End (answerOf offset (parse listLimit (drop offset s)))
+unfoldable pub answerAt : List ℕ → ℕ → Found
+answerAt s offset = cond (eqb offset (length s)) ended (answerOf offset (parse listLimit (drop offset s)))
 
-abbrev pub lineAnd : (ℕ → List ℕ) → ℕ → ℕ → Step → List ℕ
-lineAnd more offset k (step.List consumed rows) = listLine k consumed rows ++ more consumed
-lineAnd more offset k step.End = endLine offset
-lineAnd more offset k (step.Refused error at) = stopLine error at
+abbrev pub lineAnd : (ℕ → List ℕ) → ℕ → ℕ → Found → List ℕ
+lineAnd more offset k (accepted consumed rows) = listLine k consumed rows ++ more consumed
+lineAnd more offset k ended = endLine offset
+lineAnd more offset k (refused r) = stopLine r
 
 unfoldable pub textFrom : ℕ → List ℕ → ℕ → ℕ → List ℕ
 textFrom zero s offset k = []

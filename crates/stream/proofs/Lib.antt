@@ -1,6 +1,4 @@
-pub mod Reading
 pub mod Steps
-pub mod Judging
 pub mod Runs
 pub mod Handing
 pub mod Demand3

@@ -9,6 +9,7 @@ use Rattle.list.specs.Limits.{listLimit}
 use Rattle.list.specs.Tree.{Elements}
 use Rattle.list.specs.Bytes.{listBytes}
 use Rattle.list.specs.Legal.{Legal}
+use Rattle.list.specs.Refusal.{Refusal}
 use Rattle.list.specs.Parse.{Parsed, good, bad, parse}
 use Rattle.list.proofs.Items.{bytes-drop}
 use Rattle.list.proofs.RowBound.{list-size}
@@ -27,7 +28,7 @@ none-starts es l o = omega (arith, some-bytes es, simp length-append at (ap leng
 
 -- bytes that list reading refuses
 abbrev pub Refuses : List ℕ → Type 0
-Refuses s = (error : ℕ) × (offset : ℕ) × (parse listLimit s ≡ bad error offset)
+Refuses s = (r : Refusal) × (parse listLimit s ≡ bad r)
 
 -- bytes as a run, and behind it a rest that starts with no legal list
 pub record Split (s : List ℕ) : Type 0 where
@@ -60,12 +61,12 @@ pub refused : (s : List ℕ) → Bytes s → StartsNone s → Refuses s
 refused s b none = go (parse listLimit s) refl
   where
     go : (p : Parsed Elements) → parse listLimit s ≡ p → Refuses s
-    go (bad error offset) e = (error, offset, e)
+    go (bad r) e = (r, e)
     go (good es n) e = let w = sound listLimit s es n b e in absurd (none es (w .0) (drop n s, w .2))
 
-pub starts-none : (s : List ℕ) (error offset : ℕ) → parse listLimit s ≡ bad error offset → StartsNone s
-starts-none s error offset h es l o =
-    let g : bad error offset ≡ good es (length (listBytes es)) = sym h ∙ ap (parse listLimit) (o .1) ∙ reads-front es (o .0) l in
+pub starts-none : (s : List ℕ) (r : Refusal) → parse listLimit s ≡ bad r → StartsNone s
+starts-none s r h es l o =
+    let g : bad r ≡ good es (length (listBytes es)) = sym h ∙ ap (parse listLimit) (o .1) ∙ reads-front es (o .0) l in
     let z : _≡_ {A = ℕ} 0 1 = cc in
     omega arith
 
@@ -75,7 +76,7 @@ split-within zero (x ∷ s) b h = absurd (omega arith)
 split-within (suc n) s b h = go (parse listLimit s) refl (λ k c d. split-within n k c d)
   where
     go : (p : Parsed Elements) → parse listLimit s ≡ p → ((k : List ℕ) → Bytes k → length k ≤ n → Split k) → Split s
-    go (bad error offset) e ih = record { run = []; rest = s; legal = tt; bytes = b; ends = starts-none s error offset e; whole = refl }
+    go (bad r) e ih = record { run = []; rest = s; legal = tt; bytes = b; ends = starts-none s r e; whole = refl }
     go (good es m) e ih =
         let w = sound listLimit s es m b e in
         let d : length (drop m s) ≤ n = omega (arith, length-drop m s, w .1, some-bytes es) in

@@ -1,75 +1,95 @@
--- One step by its four cases, in 01's order, and a series by its first step.
-use Prim.Native.Nat.{ℕ, _+_, _<_}
-use mathlib.Core.Bool.{true, false}
-use mathlib.Core.Path.{_≡_, refl, ap, _∙_}
+-- One step by its cases, in 01's order, and a series by its first step.
+use Prim.Native.Nat.{ℕ, _+_, _-_, _*_, _≤_, _<_}
+use mathlib.Core.Bool.{Bool, true, false, cond, _&&_}
+use mathlib.Core.Path.{_≡_, refl, sym, ap, _∙_}
 use mathlib.Core.List.{List, _∷_}
 use native.Mathlib.Omega.{arith}
-use lib.ListN.{length, drop}
+use lib.Dec.{leb}
+use lib.ListN.{length, take, drop, length-drop}
+use lib.Seq.{take-all}
 use borrow.Author.Tests.{eq-eqb, ne-eqb, lt-ltb, le-ltb}
-use Rattle.list_decode.specs.declared.Decoded.the-variants as decoded
-use Rattle.list_decode.specs.Decode.{Outcome, outcome, answeredBy}
-use Rattle.list_decode.proofs.Answers.{told-outcome}
-use Rattle.stream.specs.declared.Step.{Step}
-use Rattle.stream.specs.declared.Step.the-variants as step
-use Rattle.stream.specs.Step.{Form, stepped, stepOf, accepted, ended, refused, foundOf, steppingOf}
+use Rattle.wire.specs.Area.{over}
+use Rattle.list.specs.Limits.{listLimit, rowRoom, storeRoom}
+use Rattle.list.specs.Tree.{Elements}
+use Rattle.list.specs.Rows.{listRows, listStore, rowCount}
+use Rattle.list.specs.RowBytes.{packed}
+use Rattle.list.specs.Refusal.{Refusal, refusal, moved}
+use Rattle.list.specs.Parse.{Parsed, good, bad, parse}
+use Rattle.list.proofs.RowBytes.{room-bytes}
+use Rattle.list.proofs.Sound.{within}
+use Rattle.list_decode.specs.declared.Decoded.{Decoded}
+use Rattle.list_decode.specs.Decode as decode
+use Rattle.list_decode.specs.Decode.{Outcome, outcome, Reading, roomy, answered, decodingOf, readingOf}
+use Rattle.stream.specs.Step.{Found, accepted, ended, refused, fromFront, answeredBy, stepOf}
 use Rattle.stream.specs.Series.{Lending, consumedBy, series}
 
-module _ (form : Form) (s : List ℕ) (offset : ℕ) (rows store : List ℕ) where
-  pub step-short : form .enough rows store ≡ false → stepOf form s offset rows store ≡ outcome (step.Refused 20 0) rows store
+-- 20 in bytes: a number has four
+pub room : (rows store : List ℕ) → roomy rows store ≡ (leb (4 * rowRoom) (length rows) && leb storeRoom (length store))
+unfolding roomy
+room rows store = rw (room-bytes rowRoom rows)
+
+-- where the item at fault stands, 0 where there is none
+abbrev pub faultOf : Reading → ℕ
+faultOf (decode.accepted consumed rows) = 0
+faultOf (decode.refused f) = f .offset
+
+-- it is never past the end
+fault-within : (s rows store : List ℕ) → faultOf (decodingOf s rows store .answer) ≤ length s
+unfolding decodingOf
+fault-within s rows store = go (roomy rows store) (parse listLimit s) refl
+  where
+    go : (b : Bool) (p : Parsed Elements) → parse listLimit s ≡ p
+        → faultOf (cond b (answered rows store p) (outcome (decode.refused (refusal 20 0)) rows store) .answer) ≤ length s
+    go false p e = omega arith
+    go true (good es n) e = omega arith
+    go true (bad g) e = within listLimit s g e .inside
+
+module _ (s : List ℕ) (offset : ℕ) (rows store : List ℕ) where
+  pub step-short : roomy rows store ≡ false → stepOf s offset rows store ≡ outcome (refused (refusal 20 0)) rows store
   unfolding stepOf
   step-short r = rw r
 
-  pub step-past : form .enough rows store ≡ true → length s < offset → stepOf form s offset rows store ≡ outcome (step.Refused 21 offset) rows store
+  pub step-past : roomy rows store ≡ true → length s < offset → stepOf s offset rows store ≡ outcome (refused (refusal 21 offset)) rows store
   unfolding stepOf
   step-past r h = rw (r, lt-ltb (length s) offset h)
 
-  pub step-end : form .enough rows store ≡ true → offset ≡ length s → stepOf form s offset rows store ≡ outcome step.End rows store
+  pub step-end : roomy rows store ≡ true → offset ≡ length s → stepOf s offset rows store ≡ outcome ended rows store
   unfolding stepOf
   step-end r e = rw (r, le-ltb (length s) offset (omega arith), eq-eqb offset (length s) e)
 
-  pub step-in : form .enough rows store ≡ true → offset < length s
-      → stepOf form s offset rows store ≡ stepped offset (form .decode (drop offset s) rows store)
-  unfolding stepOf
-  step-in r h = rw (r, le-ltb (length s) offset (omega arith), ne-eqb offset (length s) (λ e. omega arith))
+  module _ (r : roomy rows store ≡ true) (h : offset < length s) where
+    step-in : stepOf s offset rows store ≡ answeredBy (fromFront offset) (decodingOf (drop offset s) rows store)
+    unfolding stepOf
+    step-in = rw (r, le-ltb (length s) offset (omega arith), ne-eqb offset (length s) (λ e. omega arith))
+
+    step-parsed : (p : Parsed Elements) → parse listLimit (drop offset s) ≡ p → stepOf s offset rows store ≡ answeredBy (fromFront offset) (answered rows store p)
+    unfolding decodingOf
+    step-parsed p e = step-in ∙ rw (r, e)
+
+    pub step-found : (es : Elements) (n : ℕ) → parse listLimit (drop offset s) ≡ good es n
+        → stepOf s offset rows store ≡ outcome (accepted n (rowCount es)) (over (packed (listRows es)) rows) (over (listStore es) store)
+    step-found es n e = step-parsed (good es n) e
+
+    pub step-fault : (f : Refusal) → parse listLimit (drop offset s) ≡ bad f → stepOf s offset rows store ≡ outcome (refused (moved offset f)) rows store
+    step-fault f e = step-parsed (bad f) e
+
+    -- by what list reading answered for the bytes that `&bytes[offset..]` lends
+    module _ (d x : Decoded) (is : d ≡ x) (rows′ store′ : List ℕ)
+        (o : outcome (readingOf d) rows′ store′ ≡ decodingOf (take (length s - offset) (drop offset s)) rows store) where
+      read : outcome (readingOf x) rows′ store′ ≡ decodingOf (drop offset s) rows store
+      read =
+          let all = take-all (length s - offset) (drop offset s) (omega (arith, length-drop offset s)) in
+          ap (λ (z : Decoded). outcome (readingOf z) rows′ store′) (sym is) ∙ o ∙ ap (λ (z : List ℕ). decodingOf z rows store) all
+
+      pub step-read : outcome (fromFront offset (readingOf x)) rows′ store′ ≡ stepOf s offset rows store
+      step-read = ap (answeredBy (fromFront offset)) read ∙ sym step-in
+
+      -- a refusal's offset is not past the end
+      pub read-within : offset + faultOf (readingOf x) ≤ length s
+      read-within = omega (arith, ap (λ (z : Outcome Reading). faultOf (z .answer)) read, fault-within (drop offset s) rows store, length-drop offset s)
 
 -- the first step's outcome, and the series from the offset that it leads to
-pub series-next : (form : Form) (s : List ℕ) (offset : ℕ) (l : Lending) (ls : List Lending) (o : Outcome Step)
-    → stepOf form s offset (l .rows) (l .store) ≡ o → series form s offset (l ∷ ls) ≡ o ∷ series form s (offset + consumedBy (o .answer)) ls
+pub series-next : (s : List ℕ) (offset : ℕ) (l : Lending) (ls : List Lending) (o : Outcome Found)
+    → stepOf s offset (l .rows) (l .store) ≡ o → series s offset (l ∷ ls) ≡ o ∷ series s (offset + consumedBy (o .answer)) ls
 unfolding series
-series-next form s offset l ls o e = rw e
-
--- no two answers are found alike
-found-same : (a b : Step) → foundOf a ≡ foundOf b → a ≡ b
-found-same (step.List n m) (step.List n′ m′) e = let f : n ≡ n′ = cc in let g : m ≡ m′ = cc in rw (f, g)
-found-same (step.List n m) step.End e = absurd (let z : _≡_ {A = ℕ} 0 1 = cc in omega arith)
-found-same (step.List n m) (step.Refused n′ m′) e = absurd (let z : _≡_ {A = ℕ} 0 1 = cc in omega arith)
-found-same step.End (step.List n′ m′) e = absurd (let z : _≡_ {A = ℕ} 0 1 = cc in omega arith)
-found-same step.End step.End e = refl
-found-same step.End (step.Refused n′ m′) e = absurd (let z : _≡_ {A = ℕ} 0 1 = cc in omega arith)
-found-same (step.Refused n m) (step.List n′ m′) e = absurd (let z : _≡_ {A = ℕ} 0 1 = cc in omega arith)
-found-same (step.Refused n m) step.End e = absurd (let z : _≡_ {A = ℕ} 0 1 = cc in omega arith)
-found-same (step.Refused n m) (step.Refused n′ m′) e = let f : n ≡ n′ = cc in let g : m ≡ m′ = cc in rw (f, g)
-
--- so what a step promises is its outcome
-pub step-told : (a : Step) (rows store : List ℕ) (o : Outcome Step) → outcome (foundOf a) rows store ≡ answeredBy foundOf o → outcome a rows store ≡ o
-step-told = told-outcome foundOf found-same
-
--- what is promised, case by case
-module _ (form : Form) (s : List ℕ) (offset : ℕ) (rows store : List ℕ) where
-  pub stepping-short : form .enough rows store ≡ false → steppingOf form s offset rows store ≡ outcome (refused 20 0) rows store
-  stepping-short r = ap (answeredBy foundOf) (step-short form s offset rows store r)
-
-  pub stepping-past : form .enough rows store ≡ true → length s < offset → steppingOf form s offset rows store ≡ outcome (refused 21 offset) rows store
-  stepping-past r h = ap (answeredBy foundOf) (step-past form s offset rows store r h)
-
-  pub stepping-end : form .enough rows store ≡ true → offset ≡ length s → steppingOf form s offset rows store ≡ outcome ended rows store
-  stepping-end r e = ap (answeredBy foundOf) (step-end form s offset rows store r e)
-
-  module _ (r : form .enough rows store ≡ true) (h : offset < length s) (rows′ store′ : List ℕ) where
-    pub stepping-found : (n m : ℕ) → form .decode (drop offset s) rows store ≡ outcome (decoded.List n m) rows′ store′
-        → steppingOf form s offset rows store ≡ outcome (accepted n m) rows′ store′
-    stepping-found n m d = ap (answeredBy foundOf) (step-in form s offset rows store r h ∙ ap (stepped offset) d)
-
-    pub stepping-fault : (number at : ℕ) → form .decode (drop offset s) rows store ≡ outcome (decoded.Refused number at) rows′ store′
-        → steppingOf form s offset rows store ≡ outcome (refused number (offset + at)) rows′ store′
-    stepping-fault number at d = ap (answeredBy foundOf) (step-in form s offset rows store r h ∙ ap (stepped offset) d)
+series-next s offset l ls o e = rw e

@@ -1,4 +1,3 @@
 pub mod Step
 pub mod Series
 pub mod Run
-pub mod Judged

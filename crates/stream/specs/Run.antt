@@ -1,5 +1,5 @@
 -- A run of lists, and what 01 says of every series of steps over it.
-use Prim.Native.Nat.{ℕ, _+_}
+use Prim.Native.Nat.{ℕ}
 use mathlib.Core.Bool.{cond}
 use mathlib.Core.Path.{_≡_}
 use mathlib.Core.List.{List, [], _∷_, _++_}
@@ -8,13 +8,13 @@ use Rattle.wire.specs.Area.{over}
 use Rattle.list.specs.Limits.{listLimit}
 use Rattle.list.specs.Tree.{Elements}
 use Rattle.list.specs.Bytes.{listBytes}
-use Rattle.list.specs.Rows.{listStore, rowCount}
+use Rattle.list.specs.Rows.{listRows, listStore, rowCount}
+use Rattle.list.specs.RowBytes.{packed}
 use Rattle.list.specs.Legal.{Legal}
+use Rattle.list.specs.Refusal.{refusal, moved}
 use Rattle.list.specs.Parse.{Parsed, good, bad, parse}
-use Rattle.list_decode.specs.Decode.{Outcome, outcome}
-use Rattle.stream.specs.declared.Step.{Step}
-use Rattle.stream.specs.declared.Step.the-variants as step
-use Rattle.stream.specs.Step.{Form}
+use Rattle.list_decode.specs.Decode.{Outcome, outcome, roomy}
+use Rattle.stream.specs.Step.{Found, accepted, ended, refused}
 use Rattle.stream.specs.Series.{Lending}
 
 -- "A run is any number of legal lists, none included."
@@ -36,34 +36,31 @@ abbrev pub StartsNone : List ℕ → Type 0
 StartsNone s = (es : Elements) → Legal listLimit es → Opens (listBytes es) s → ⊥
 
 -- "A step lent less than 20 asks is refused 20 at place 0"
-abbrev pub passedOver : Lending → Outcome Step
-passedOver l = outcome (step.Refused 20 0) (l .rows) (l .store)
+abbrev pub passedOver : Lending → Outcome Found
+passedOver l = outcome (refused (refusal 20 0)) (l .rows) (l .store)
 
 -- "it answers that list's numbers of bytes and rows, and the areas hold its rows and store bytes at the front, beyond them what they held"
-abbrev pub handedOver : Form → Elements → Lending → Outcome Step
-handedOver form es l =
-    outcome (step.List (length (listBytes es)) (rowCount es)) (over (form .written es) (l .rows)) (over (listStore es) (l .store))
+abbrev pub handedOver : Elements → Lending → Outcome Found
+handedOver es l =
+    outcome (accepted (length (listBytes es)) (rowCount es)) (over (packed (listRows es)) (l .rows)) (over (listStore es) (l .store))
 
 -- "list reading's refusal of those bytes alone, the run's bytes added to its place"; bytes that start with no legal list are never `good`
-abbrev pub refusal : ℕ → Parsed Elements → Step
-refusal size (bad error offset) = step.Refused error (size + offset)
-refusal size (good es consumed) = step.End
+abbrev pub refusedBehind : ℕ → Parsed Elements → Found
+refusedBehind size (bad r) = refused (moved size r)
+refusedBehind size (good es consumed) = ended
 
 -- "Behind the run, if no byte follows, each answers "end"." If bytes follow, each gives their refusal.
-abbrev pub behind : ℕ → List ℕ → Step
-behind size [] = step.End
-behind size (b ∷ rest) = refusal size (parse listLimit (b ∷ rest))
+abbrev pub behind : ℕ → List ℕ → Found
+behind size [] = ended
+behind size (b ∷ rest) = refusedBehind size (parse listLimit (b ∷ rest))
 
 -- "Of the rest, the first hands over the first list, and so on through the run", then each gives the answer `last`
-unfoldable pub handing : Form → List Elements → Step → List Lending → List (Outcome Step)
-handing form run last [] = []
-handing form [] last (l ∷ ls) =
-    cond (form .enough (l .rows) (l .store)) (outcome last (l .rows) (l .store)) (passedOver l) ∷ handing form [] last ls
-handing form (es ∷ run) last (l ∷ ls) =
-    cond (form .enough (l .rows) (l .store))
-    (handedOver form es l ∷ handing form run last ls)
-    (passedOver l ∷ handing form (es ∷ run) last ls)
+unfoldable pub handing : List Elements → Found → List Lending → List (Outcome Found)
+handing run last [] = []
+handing [] last (l ∷ ls) = cond (roomy (l .rows) (l .store)) (outcome last (l .rows) (l .store)) (passedOver l) ∷ handing [] last ls
+handing (es ∷ run) last (l ∷ ls) =
+    cond (roomy (l .rows) (l .store)) (handedOver es l ∷ handing run last ls) (passedOver l ∷ handing (es ∷ run) last ls)
 
 -- what 01 says of every series of steps over a run and the bytes that follow it
-abbrev pub expected : Form → List Elements → List ℕ → List Lending → List (Outcome Step)
-expected form run rest lendings = handing form run (behind (length (runBytes run)) rest) lendings
+abbrev pub expected : List Elements → List ℕ → List Lending → List (Outcome Found)
+expected run rest lendings = handing run (behind (length (runBytes run)) rest) lendings

@@ -27,3 +27,8 @@ pub byte-small : (s : List ℕ) (i : ℕ) → Bytes s → getD s i 0 < 256
 byte-small [] i h = omega arith
 byte-small (b ∷ s) zero h = h .0
 byte-small (b ∷ s) (suc i) h = byte-small s i (h .1)
+
+-- elements that are each below 256 are bytes
+pub all-bytes : (s : List ℕ) → ((i : ℕ) → getD s i 0 < 256) → Bytes s
+all-bytes [] h = tt
+all-bytes (b ∷ s) h = (h 0, all-bytes s (λ i. h (suc i)))

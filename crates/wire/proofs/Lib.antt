@@ -3,3 +3,4 @@ pub mod Chains
 pub mod Buffers
 pub mod Zeros
 pub mod ByteLists
+pub mod Equal

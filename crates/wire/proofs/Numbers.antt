@@ -1,11 +1,11 @@
 -- Laws of numbers as bytes, once for every width.
 use Prim.Native.Nat.{ℕ, zero, suc, _+_, _*_, _/_, _%_, _<_, _≤_, _^_}
 use mathlib.Core.Path.{_≡_, refl, ap, _∙_}
-use mathlib.Core.List.{List, [], _∷_}
+use mathlib.Core.List.{List, [], _∷_, _++_}
 use native.Mathlib.Omega.{arith}
-use native.Mathlib.Nat.{add-zero, pow-succ'}
+use native.Mathlib.Nat.{add-zero, zero-add, mul-assoc, pow-succ'}
 use lib.ListN.{length, take, drop, getD, drop-of-length-le}
-use lib.Seq.{drop-drop, getD-drop}
+use lib.Seq.{drop-drop, getD-drop, take-take}
 use Rattle.wire.specs.Number.{leValue, leBytes, numberAt, Bytes}
 
 pub length-leBytes : (width x : ℕ) → length (leBytes width x) ≡ width
@@ -76,3 +76,20 @@ number-8 s at =
     let c = rw three at (number-step 5 s (at + 2)) in
     let d = rw four at (number-step 4 s (at + 3)) in
     omega (arith, a, b, c, d, number-4 s at)
+
+-- the number of a part that is as long as the number
+pub part-number : (width n : ℕ) (s : List ℕ) (at : ℕ) → n ≡ width → numberAt width (take n (drop at s)) 0 ≡ numberAt width s at
+part-number width n s at e = rw e (ap leValue (take-take width width (drop at s) (omega arith)))
+
+-- the bytes of two numbers, one behind the other, are those of one number
+pub bytes-joined : (a b x y : ℕ) → x < 256 ^ a → leBytes (a + b) (x + 256 ^ a * y) ≡ leBytes a x ++ leBytes b y
+bytes-joined zero b x y h =
+    let e : x + 256 ^ 0 * y ≡ y = omega arith in
+    rw (zero-add b, e)
+bytes-joined (suc a) b x y h =
+    let p : 256 ^ suc a ≡ 256 * 256 ^ a = pow-succ' 256 a in
+    let n : suc a + b ≡ suc (a + b) = omega arith in
+    let z : 256 ^ suc a * y ≡ 256 * (256 ^ a * y) = rw p (mul-assoc 256 (256 ^ a) y) in
+    let q : (x + 256 ^ suc a * y) % 256 ≡ x % 256 = omega arith in
+    let r : (x + 256 ^ suc a * y) / 256 ≡ x / 256 + 256 ^ a * y = omega arith in
+    rw (n, q, r, bytes-joined a b (x / 256) y (omega arith))

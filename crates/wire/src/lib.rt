@@ -1,8 +1,8 @@
 // One byte, bytes that are copied, and the search for a zero. Every public function answers for every input.
 ghost use mathlib.Core.Path.{_≡_};
-ghost use Prim.Native.Nat.{_≤_, _<_};
+ghost use Prim.Native.Nat.{_*_, _≤_, _<_};
 ghost use lib.ListN.{length, getD};
-ghost use Rattle.wire.specs.Area.{putAt};
+ghost use Rattle.wire.specs.Area.{blockSize, putAt, replaced};
 ghost use Rattle.wire.specs.Zero.{hasZero};
 
 // The byte at an offset, 0 past the end.
@@ -41,8 +41,57 @@ pub fn copy_at(dst: &mut [u8], at: usize, src: &[u8])
     copy(&mut dst[at..at + src.len()], src);
 }
 
+// The longest source that two moves of 8 bytes copy.
+const SHORT: usize = 16;
+
+// Copies `src` over a buffer of its length, where it is at most one block; else nothing changes. A short source takes two moves
+// that may overlap. A caller that cuts both to one length pays no test of lengths.
+pub fn copy_short(dst: &mut [u8], src: &[u8])
+    ensures { λ _. ⌜ now (dst .exit) ≡ replaced (now (dst .entry)) (now (src .entry)) ⌝ }
+{
+    if dst.len() != src.len() {
+        return;
+    }
+    if src.len() <= SHORT {
+        copy_few(dst, src);
+        return;
+    }
+    if src.len() <= BLOCK {
+        copy_block(dst, src);
+    }
+}
+
+fn copy_few(dst: &mut [u8], src: &[u8])
+    requires { ⌜ (length (now dst) ≡ length (now src)) × (length (now src) ≤ 16) ⌝ }
+    ensures { λ _. ⌜ now (dst .exit) ≡ now (src .entry) ⌝ }
+{
+    if 8 <= src.len() {
+        copy_ends(dst, src, 8);
+        return;
+    }
+    if 4 <= src.len() {
+        copy_ends(dst, src, 4);
+        return;
+    }
+    if 2 <= src.len() {
+        copy_ends(dst, src, 2);
+        return;
+    }
+    copy_bytes(dst, src);
+}
+
+// The first n bytes and the last n, which are all of them.
+fn copy_ends(dst: &mut [u8], src: &[u8], n: usize)
+    requires { ⌜ (length (now dst) ≡ length (now src)) × (n ≤ length (now src)) × (length (now src) ≤ 2 * n) × (n ≤ blockSize) ⌝ }
+    ensures { λ _. ⌜ now (dst .exit) ≡ now (src .entry) ⌝ }
+{
+    let last = src.len() - n;
+    copy_block(&mut dst[0..n], &src[0..n]);
+    copy_block(&mut dst[last..], &src[last..]);
+}
+
 // The longest source that is copied in one move.
-const BLOCK: usize = 4096;
+const BLOCK: usize = 65536;
 
 // Copies `src` over a buffer of its length.
 fn copy(dst: &mut [u8], src: &[u8])
@@ -72,7 +121,7 @@ fn copy_long(dst: &mut [u8], src: &[u8])
 // How many bytes the next block has, where some are left.
 fn block_size(left: usize) -> usize
     requires { ⌜ 0 < left ⌝ }
-    ensures { λ r. ⌜ (0 < r) × (r ≤ left) × (r ≤ 4096) ⌝ }
+    ensures { λ r. ⌜ (0 < r) × (r ≤ left) × (r ≤ blockSize) ⌝ }
 {
     if BLOCK < left {
         return BLOCK;
@@ -83,7 +132,7 @@ fn block_size(left: usize) -> usize
 // The same for a source of at most one block, by way of an array: nothing overlaps an array of the function's own, so that
 // the compiler makes one move of memory of the two loops, and no array.
 fn copy_block(dst: &mut [u8], src: &[u8])
-    requires { ⌜ (length (now dst) ≡ length (now src)) × (length (now src) ≤ 4096) ⌝ }
+    requires { ⌜ (length (now dst) ≡ length (now src)) × (length (now src) ≤ blockSize) ⌝ }
     ensures { λ _. ⌜ now (dst .exit) ≡ now (src .entry) ⌝ }
 {
     let mut block = [0u8; BLOCK];

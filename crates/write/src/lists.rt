@@ -1,24 +1,13 @@
 // A list from its rows and store.
 use super::buffer;
 use super::written;
+use list::NUMBER;
 use list_encode::Encoded;
-ghost use Prim.Native.Nat.{_≤_};
-ghost use lib.ListN.{length};
 
-// As many row numbers as the longest input can have.
-pub const NUMBERS: usize = 16384;
+// Where the rows stand in a record.
+const ROWS: usize = 5;
 
-fn take_rows(s: &[u8], rows: &mut [u32])
-    requires { ⌜ length (now rows) ≤ 65535 ⌝ }
-{
-    let mut i: usize = 0;
-    while i < rows.len() {
-        rows[i] = numbers::u32_at(s, 5 + 4 * i);
-        i += 1;
-    }
-}
-
-fn write_into(rows: &[u32], store: &[u8], buffer: &mut [u8], out: &mut [u8], used: usize) -> usize {
+fn write_into(rows: &[u8], store: &[u8], buffer: &mut [u8], out: &mut [u8], used: usize) -> usize {
     buffer::fill(&mut *buffer);
     let e = list_encode::encode(rows, store, &mut *buffer);
     match e {
@@ -28,9 +17,8 @@ fn write_into(rows: &[u32], store: &[u8], buffer: &mut [u8], out: &mut [u8], use
 }
 
 // The list of a whole record.
-pub fn write(s: &[u8], rows: &mut [u32], buffer: &mut [u8], out: &mut [u8], used: usize) -> usize {
-    let count = numbers::u16_at(s, 1) as usize;
-    let store = 5 + 4 * count;
+pub fn write(s: &[u8], buffer: &mut [u8], out: &mut [u8], used: usize) -> usize {
+    let store = ROWS + NUMBER * (numbers::u16_at(s, 1) as usize);
     if s.len() < store + 2 {
         return used;
     }
@@ -39,12 +27,8 @@ pub fn write(s: &[u8], rows: &mut [u32], buffer: &mut [u8], out: &mut [u8], used
     if buffer.len() < room {
         return used;
     }
-    if rows.len() < count {
-        return used;
-    }
-    take_rows(s, &mut rows[0..count]);
     write_into(
-        &rows[0..count],
+        &s[ROWS..store],
         &s[store..end],
         &mut buffer[0..room],
         out,

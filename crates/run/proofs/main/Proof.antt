@@ -1,5 +1,5 @@
 -- `run::main` meets its contract: what `report` asks of the arrays, and that the text lies within its buffer.
-use Prim.Native.Nat.{ℕ}
+use Prim.Native.Nat.{ℕ, _*_}
 use lib.ListN.{length-replicate}
 use borrow.Author.Needs.{needs}
 use Rattle.list.specs.Limits.{rowRoom, storeRoom}
@@ -29,7 +29,7 @@ slice-aggregate-report-4 : tie.Need-slice-aggregate-report-4
 slice-aggregate-report-4 c = search needs
 
 report-requires : tie.Need-report-requires
-report-requires c κs = (length-replicate {A = ℕ} rowRoom 0, length-replicate {A = ℕ} storeRoom 0, length-replicate {A = ℕ} textRoom 0)
+report-requires c κs = (length-replicate {A = ℕ} (4 * rowRoom) 0, length-replicate {A = ℕ} storeRoom 0, length-replicate {A = ℕ} textRoom 0)
 
 array-share-prefix-text : tie.Need-array-share-prefix-text
 array-share-prefix-text c = search needs

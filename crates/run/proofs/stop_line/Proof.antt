@@ -8,6 +8,9 @@ use Rattle.run.proofs.stop_line.Tie as tie
 slice-aggregate-put-number : tie.Need-slice-aggregate-put-number
 slice-aggregate-put-number c = search needs
 
+cast-put-number : tie.Need-cast-put-number
+cast-put-number c = search needs
+
 put-number-requires : tie.Need-put-number-requires
 put-number-requires c κs = search needs
 
@@ -32,6 +35,7 @@ stop-line-spec =
     tie.close
     (tie.spec
     slice-aggregate-put-number
+    cast-put-number
     put-number-requires
     slice-aggregate-put-line
     put-line-requires

@@ -1,5 +1,5 @@
 -- `run::stream_text` meets its contract. The loop's invariant: the text so far and the text from here on are the whole; each list before the k-th
--- has 8 bytes or more and a line of bounded length. The measure is what is left of the bytes.
+-- has the bytes of the shortest list or more, and a line of bounded length. The measure is what is left of the bytes.
 use Prim.Native.Nat.{ℕ, _+_, _-_, _*_, _≤_}
 use mathlib.Core.Path.{_≡_, sym, ap}
 use mathlib.Core.List.{_++_}
@@ -8,8 +8,7 @@ use lib.ListN.{length, take}
 use lib.Seq.{length-take-le}
 use borrow.Author.Needs.{needs}
 use Rattle.list.specs.Limits.{rowRoom, storeRoom}
-use Rattle.stream.proofs.Steps.{step-told}
-use Rattle.run.specs.Limits.{inputLimit, lineRoom, textRoom}
+use Rattle.run.specs.Limits.{inputLimit, longestLine, leastList, textRoom}
 use Rattle.run.specs.Text.{textFrom, textOf}
 use Rattle.run.proofs.Answers.{ListAt, answered, list-found, text-list, text-end, text-stop}
 use Rattle.run.proofs.stream_text.Statement.{statement}
@@ -23,8 +22,8 @@ use Rattle.stream.proofs.next.Reads as next-reads
 
 abbrev Inv-loop : tie.InvT-loop
 Inv-loop bytes rows₀ store₀ text₀ offset₀ used₀ k₀ rows store text offset used k =
-    (length bytes ≤ inputLimit) × (length rows ≡ rowRoom) × (length store ≡ storeRoom) × (length text ≡ textRoom)
-    × (offset ≤ length bytes) × (1 ≤ k) × (8 * k ≤ offset + 8) × (used + lineRoom ≤ lineRoom * k)
+    (length bytes ≤ inputLimit) × (length rows ≡ 4 * rowRoom) × (length store ≡ storeRoom) × (length text ≡ textRoom)
+    × (offset ≤ length bytes) × (1 ≤ k) × (leastList * k ≤ offset + leastList) × (used + longestLine ≤ longestLine * k)
     × (take used text ++ textFrom (length bytes + 2 - k) bytes offset k ≡ textOf bytes)
 
 abbrev μ-loop : tie.MeasureT-loop
@@ -38,13 +37,15 @@ After-line =
     reads.Pre reads.Post Inv-loop μ-loop
 
 here : (c : After-line)
-    → ListAt (c .before .before .before .before .before .before .before .before .before .before .before .before .before .before .before .before .before .before .before .args .bytes .now)
-    (c .before .before .before .before .before .before .before .before .before .before .before .before .before .before .loop .offset) (c .before .before .before .before .before .step .given .0 .0) (c .before .before .before .before .before .step .given .0 .1 .0)
+    → ListAt
+    (c .before .before .before .before .before .before .before .before .before .before .before .before .before .before .before .before .before .before .before .args .bytes .now)
+    (c .before .before .before .before .before .before .before .before .before .before .before .before .before .before .loop .offset)
+    (c .before .before .before .before .before .step .given .0 .0) (c .before .before .before .before .before .step .given .0 .1 .0)
 here c =
     let l = c .before .before .before .before .before .before .before .before .before .before .before .before .before .before .loop in
     list-found _ (l .offset) _ _ _ _ _ _ _ (l .inv .1) (l .inv .2) (l .inv .4)
     (c .before .before .before .before .before .before .before .before .before .before .before .before .before .before .before .before .before .before .shared-slice-known .given)
-    (step-told (c .before .before .before .before .before .before .before .before .before .before .before .next .result) _ _ _ (c .before .before .before .before .before .before .before .before .before .before .before .next .ensures))
+    (c .before .before .before .before .before .before .before .before .before .before .before .next .ensures)
     (c .before .before .before .before .before .step .given .1)
 
 loop-holds : tie.Need-loop-holds Inv-loop μ-loop
@@ -110,7 +111,7 @@ returns c =
     let a = c .before .before .before .before .before .before .before .before .before .before .before .before .before .before .before .before .before .before .args in
     let l = c .before .before .before .before .before .before .before .before .before .before .before .before .before .loop in
     let here = answered (a .bytes .now) (l .offset) _ _ _ _ _ _ (l .inv .1) (l .inv .2) (l .inv .4)
-    (step-told (c .before .before .before .before .before .before .before .before .before .before .next .result) _ _ _ (c .before .before .before .before .before .before .before .before .before .before .next .ensures))
+    (c .before .before .before .before .before .before .before .before .before .before .next .ensures)
     (c .before .before .before .before .enum-told .given .1) in (
       text-end (a .bytes .now) (l .offset) (l .k) (l .used) (l .text) _ (textOf (a .bytes .now)) _ (omega arith) (l .inv .8)
           here (c .before .before .end-line .ensures .0),
@@ -137,10 +138,10 @@ returns-2 c =
     let a = c .before .before .before .before .before .before .before .before .before .before .before .before .before .before .before .before .before .before .before .args in
     let l = c .before .before .before .before .before .before .before .before .before .before .before .before .before .before .loop in
     let here = answered (a .bytes .now) (l .offset) _ _ _ _ _ _ (l .inv .1) (l .inv .2) (l .inv .4)
-    (step-told (c .before .before .before .before .before .before .before .before .before .before .before .next .result) _ _ _ (c .before .before .before .before .before .before .before .before .before .before .before .next .ensures))
+    (c .before .before .before .before .before .before .before .before .before .before .before .next .ensures)
     (c .before .before .before .before .before .step2 .given .1) in (
       text-stop (a .bytes .now) (l .offset) (l .k) (l .used) (l .text) _ (textOf (a .bytes .now)) _ (omega arith) (l .inv .8)
-          _ _ here (c .before .before .stop-line .ensures .0),
+          _ here (c .before .before .stop-line .ensures .0),
       (search needs, sym (length-take-le _ _ (search needs))),
     )
 

@@ -7,10 +7,11 @@ use Rattle.write.proofs.write_records.Statement.{statement}
 use Rattle.write.proofs.write_records.Tie as tie
 
 abbrev Inv-loop : tie.InvT-loop
-Inv-loop records rows₀ buffer₀ out₀ used₀ at₀ k₀ rows buffer out used at k = (at ≤ length records) × (k ≤ at + 1) × (length rows ≡ length rows₀) × (length buffer ≡ length buffer₀) × (length out ≡ length out₀)
+Inv-loop records buffer₀ out₀ used₀ at₀ k₀ buffer out used at k =
+    (at ≤ length records) × (k ≤ at + 1) × (length buffer ≡ length buffer₀) × (length out ≡ length out₀)
 
 abbrev μ-loop : tie.MeasureT-loop
-μ-loop records rows₀ buffer₀ out₀ used₀ at₀ k₀ rows buffer out used at k = length records - at
+μ-loop records buffer₀ out₀ used₀ at₀ k₀ buffer out used at k = length records - at
 
 loop-holds : tie.Need-loop-holds Inv-loop μ-loop
 loop-holds c = search needs
@@ -69,9 +70,6 @@ same-length c = search needs
 same-length-2 : tie.Need-same-length-2 Inv-loop μ-loop
 same-length-2 c = search needs
 
-same-length-3 : tie.Need-same-length-3 Inv-loop μ-loop
-same-length-3 c = search needs
-
 returns : tie.Need-returns Inv-loop μ-loop
 returns c = search needs
 
@@ -100,5 +98,4 @@ write-records-spec =
     finish-requires
     same-length
     same-length-2
-    same-length-3
     returns)

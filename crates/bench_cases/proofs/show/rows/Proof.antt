@@ -1,4 +1,4 @@
--- `show::rows` is safe. The loop's invariant: i is at most the number of numbers.
+-- `show::rows` is safe. The loop's invariant: i is at most the number of bytes.
 use Prim.Native.Nat.{_-_, _≤_}
 use lib.ListN.{length}
 use borrow.Author.Needs.{needs}
@@ -17,11 +17,8 @@ text-requires c κs = search needs
 loop-holds : tie.Need-loop-holds Inv-loop μ-loop
 loop-holds c = search needs
 
-mul-row-number : tie.Need-mul-row-number Inv-loop μ-loop
-mul-row-number c = search needs
-
-shared-slice-read-row-number : tie.Need-shared-slice-read-row-number Inv-loop μ-loop
-shared-slice-read-row-number c = search needs
+number-at-requires : tie.Need-number-at-requires Inv-loop μ-loop
+number-at-requires c κs = search needs
 
 row-number-requires : tie.Need-row-number-requires Inv-loop μ-loop
 row-number-requires c κs = search needs
@@ -46,8 +43,7 @@ rows-spec =
     μ-loop
     text-requires
     loop-holds
-    mul-row-number
-    shared-slice-read-row-number
+    number-at-requires
     row-number-requires
     add-i
     loop-less

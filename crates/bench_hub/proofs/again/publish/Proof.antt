@@ -3,11 +3,12 @@ use Prim.Native.Nat.{_-_, _≤_}
 use mathlib.Core.Path.{_≡_}
 use lib.ListN.{length}
 use borrow.Author.Needs.{needs}
+use Rattle.list.specs.Limits.{listLimit}
 use Rattle.bench_hub.proofs.again.publish.Statement.{statement}
 use Rattle.bench_hub.proofs.again.publish.Tie as tie
 
 abbrev Inv-loop : tie.InvT-loop
-Inv-loop times catalogue t list₀ c₀ k₀ list c k = (k ≤ times) × (length list ≡ 4096)
+Inv-loop times catalogue t list₀ c₀ k₀ list c k = (k ≤ times) × (length list ≡ listLimit)
 
 abbrev μ-loop : tie.MeasureT-loop
 μ-loop times catalogue t list₀ c₀ k₀ list c k = times - k

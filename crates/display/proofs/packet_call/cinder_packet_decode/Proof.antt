@@ -7,27 +7,9 @@ use Rattle.display.proofs.PacketAnswers.{call-filled}
 use Rattle.display.proofs.packet_call.cinder_packet_decode.Statement.{statement}
 use Rattle.display.proofs.packet_call.cinder_packet_decode.Tie as tie
 
-decode-into-requires : tie.Need-decode-into-requires
-decode-into-requires c κs = search needs
-
-enum-known-answer : tie.Need-enum-known-answer
-enum-known-answer c = search needs
-
-cast-t9 : tie.Need-cast-t9
-cast-t9 c = search needs
-
-enum-known-answer-2 : tie.Need-enum-known-answer-2
-enum-known-answer-2 c = search needs
-
-same-length : tie.Need-same-length
-same-length c = search needs
-
 returns : tie.Need-returns
 returns c = let d = c .before .before .before .before .before in
     call-filled _ _ _ _ (ap (λ (a : Answer). record { judgement = judgementOf a; buffer = d .decode-into .last .1 .0 }) (sym (c .before .answer .given .1)) ∙ d .decode-into .ensures)
-
-same-length-2 : tie.Need-same-length-2
-same-length-2 c = search needs
 
 returns-2 : tie.Need-returns-2
 returns-2 c = let d = c .before .before .before .before .before in
@@ -37,11 +19,11 @@ pub cinder-packet-decode-spec : {M : Type 1} → statement M
 cinder-packet-decode-spec =
     tie.close
     (tie.spec
-    decode-into-requires
-    enum-known-answer
-    cast-t9
-    enum-known-answer-2
-    same-length
+    (λ c κs. search needs)
+    (λ c. search needs)
+    (λ c. search needs)
+    (λ c. search needs)
+    (λ c. search needs)
     returns
-    same-length-2
+    (λ c. search needs)
     returns-2)

@@ -1,62 +1,58 @@
--- `list_decode::fill::fill` meets its contract. The loop's invariant: elements stand from here to the end, and writing them has the outcome of the whole list.
-use Prim.Native.Nat.{_-_}
+-- `list_decode::fill::fill` meets its contract. The loop's invariant: the elements behind `pos` are left to write.
+use Prim.Native.Nat.{_+_, _-_, _≤_}
 use native.Mathlib.Omega.{arith}
+use lib.ListN.{length}
 use borrow.Author.Needs.{needs}
-use Rattle.list_decode.specs.Items.{numbers, place}
-use Rattle.list_decode.proofs.Fills.{Stage, stage-start, stage-legible, stage-fits, stage-ready, stage-less, stage-turn, stage-done, laid-numbers}
+use Rattle.list_decode.specs.Pieces.{cursor}
+use Rattle.list_decode.proofs.Filling.{Stage, stage-start, stage-ready, stage-on, stage-turn, stage-small, stage-done}
 use Rattle.list_decode.proofs.fill.fill.Statement.{statement}
 use Rattle.list_decode.proofs.fill.fill.Tie as tie
 
 abbrev Inv-loop : tie.InvT-loop
-Inv-loop s end rows₀ store₀ pos₀ row₀ used₀ rows store pos row used = Stage numbers s end rows₀ store₀ (place pos row used) rows store
+Inv-loop s rows₀ store₀ pos₀ row₀ used₀ rows store pos row used = (pos ≤ length s) × Stage s rows₀ store₀ (cursor pos row used) rows store
 
 abbrev μ-loop : tie.MeasureT-loop
-μ-loop s end rows₀ store₀ pos₀ row₀ used₀ rows store pos row used = end - pos
+μ-loop s rows₀ store₀ pos₀ row₀ used₀ rows store pos row used = length s - pos
 
 loop-holds : tie.Need-loop-holds Inv-loop μ-loop
-loop-holds c = let a = c .before .before .before .args in stage-start numbers (a .s .now) (a .end) (a .rows .now) (a .store .now) (c .before .before .before .pre) (λ i. omega (arith, c .before .before .shared-slice-known .given i))
+loop-holds c =
+    let b = c .before .before .before in
+    (omega arith, stage-start (b .args .s .now) (b .args .rows .now) (b .args .store .now) (b .pre) (λ i. omega (arith, c .before .before .shared-slice-known .given i)))
 
-element-requires : tie.Need-element-requires Inv-loop μ-loop
-element-requires c κs = let h = stage-legible laid-numbers (c .before .loop .inv) (c .loop-test .taken) in (omega (arith, h .0), omega (arith, h .1), h .2, h .3)
-
-put-row-requires : tie.Need-put-row-requires Inv-loop μ-loop
-put-row-requires c κs = stage-fits laid-numbers (c .before .before .before .loop .inv) (c .before .before .loop-test .taken) (c .before .element .result) (c .before .element .ensures) .row-fits
-
-mul-put-bytes : tie.Need-mul-put-bytes Inv-loop μ-loop
-mul-put-bytes c = search needs
-
-add-put-bytes : tie.Need-add-put-bytes Inv-loop μ-loop
-add-put-bytes c = omega (arith, stage-fits laid-numbers (c .before .before .before .before .before .before .before .loop .inv) (c .before .before .before .before .before .before .loop-test .taken) (c .before .before .before .before .before .element .result) (c .before .before .before .before .before .element .ensures) .bytes-there)
-
-put-bytes-requires : tie.Need-put-bytes-requires Inv-loop μ-loop
-put-bytes-requires c κs = stage-fits laid-numbers (c .before .before .before .before .before .before .before .loop .inv) (c .before .before .before .before .before .before .loop-test .taken) (c .before .before .before .before .before .element .result) (c .before .before .before .before .before .element .ensures) .bytes-there
-
-add-t19 : tie.Need-add-t19 Inv-loop μ-loop
-add-t19 c = omega (arith, stage-fits laid-numbers (c .before .before .before .before .before .before .before .before .before .before .loop .inv) (c .before .before .before .before .before .before .before .before .before .loop-test .taken) (c .before .before .before .before .before .before .before .before .element .result) (c .before .before .before .before .before .before .before .before .element .ensures) .row-fits)
-
-add-t20 : tie.Need-add-t20 Inv-loop μ-loop
-add-t20 c = omega (arith, stage-fits laid-numbers (c .before .before .before .before .before .before .before .before .before .before .loop .inv) (c .before .before .before .before .before .before .before .before .before .loop-test .taken) (c .before .before .before .before .before .before .before .before .element .result) (c .before .before .before .before .before .before .before .before .element .ensures) .few)
-
-put-run-requires : tie.Need-put-run-requires Inv-loop μ-loop
-put-run-requires c κs = stage-ready laid-numbers (c .before .before .before .before .before .before .before .before .before .before .before .before .loop .inv) (c .before .before .before .before .before .before .before .before .before .before .before .loop-test .taken) (c .before .before .before .before .before .before .before .before .before .before .element .result) (c .before .before .before .before .before .before .before .before .before .before .element .ensures) _ _ (c .before .before .before .before .before .before .before .before .put-row .ensures) (c .before .before .before .before .put-bytes .ensures)
+put-element-requires : tie.Need-put-element-requires Inv-loop μ-loop
+put-element-requires c κs =
+    let l = c .before .before .before in
+    let some : l .loop .pos + 8 ≤ length (l .before .before .before .before .args .s .now) = omega (arith, c .before .before .loop-test .taken) in
+    stage-ready (l .loop .inv .1) some
 
 loop-less : tie.Need-loop-less Inv-loop μ-loop
-loop-less c = omega (arith, stage-less laid-numbers (c .before .before .before .before .before .before .before .before .before .before .before .before .before .before .before .before .before .loop .inv) (c .before .before .before .before .before .before .before .before .before .before .before .before .before .before .before .before .loop-test .taken) (c .before .before .before .before .before .before .before .before .before .before .before .before .before .before .before .element .result) (c .before .before .before .before .before .before .before .before .before .before .before .before .before .before .before .element .ensures) _ _ (c .before .before .before .before .before .before .before .before .before .before .before .before .before .put-row .ensures) (c .before .before .before .before .before .before .before .before .before .put-bytes .ensures) (c .before .before .before .before .put-run .result) _ _ (c .before .before .before .before .put-run .ensures), c .before .before .before .before .before .before .before .before .before .before .before .before .before .before .before .before .loop-test .taken)
+loop-less c =
+    let w = c .before .before .before .before in
+    let l = w .before .before .before .before in
+    let some : l .loop .pos + 8 ≤ length (l .before .before .before .before .args .s .now) = omega (arith, w .before .before .before .loop-test .taken) in
+    omega (arith, stage-on (l .loop .inv .1) some (w .put-element .ensures))
 
 loop-again : tie.Need-loop-again Inv-loop μ-loop
-loop-again c = stage-turn laid-numbers (c .before .before .before .before .before .before .before .before .before .before .before .before .before .before .before .before .before .loop .inv) (c .before .before .before .before .before .before .before .before .before .before .before .before .before .before .before .before .loop-test .taken) (c .before .before .before .before .before .before .before .before .before .before .before .before .before .before .before .element .result) (c .before .before .before .before .before .before .before .before .before .before .before .before .before .before .before .element .ensures) _ _ (c .before .before .before .before .before .before .before .before .before .before .before .before .before .put-row .ensures) (c .before .before .before .before .before .before .before .before .before .put-bytes .ensures) (c .before .before .before .before .put-run .result) _ _ (c .before .before .before .before .put-run .ensures)
+loop-again c =
+    let w = c .before .before .before .before in
+    let l = w .before .before .before .before in
+    let some : l .loop .pos + 8 ≤ length (l .before .before .before .before .args .s .now) = omega (arith, w .before .before .before .loop-test .taken) in
+    let t = stage-turn (l .loop .inv .1) some (w .put-element .ensures) in
+    (t .stands .inside, t)
 
 cast-result : tie.Need-cast-result Inv-loop μ-loop
-cast-result c = omega (arith, stage-done laid-numbers (c .before .loop .inv) (c .loop-test .left) .0, c .before .loop .inv .few)
+cast-result c = omega (arith, stage-small (c .before .loop .inv .1))
 
 same-length : tie.Need-same-length Inv-loop μ-loop
-same-length c = c .before .loop .inv .rest .rows-length
+same-length c = c .before .loop .inv .1 .rest .rows-left .size
 
 same-length-2 : tie.Need-same-length-2 Inv-loop μ-loop
-same-length-2 c = c .before .loop .inv .rest .store-length
+same-length-2 c = c .before .loop .inv .1 .rest .store-left .size
 
 returns : tie.Need-returns Inv-loop μ-loop
-returns c = let h = stage-done laid-numbers (c .before .loop .inv) (c .loop-test .left) in record { count = omega (arith, h .0); rowsAre = h .1; storeIs = h .2 }
+returns c =
+    let l = c .before in
+    stage-done (l .loop .inv .1) (l .before .before .before .before .pre .whole) (omega (arith, c .loop-test .left))
 
 pub fill-spec : {M : Type 1} → statement M
 fill-spec =
@@ -65,14 +61,9 @@ fill-spec =
     Inv-loop
     μ-loop
     loop-holds
-    element-requires
-    put-row-requires
-    mul-put-bytes
-    add-put-bytes
-    put-bytes-requires
-    add-t19
-    add-t20
-    put-run-requires
+    (λ c. search needs)
+    (λ c. search needs)
+    put-element-requires
     loop-less
     loop-again
     cast-result

@@ -1,104 +1,102 @@
 -- `list_encode::emit::emit_rows` meets its contract.
--- The invariant: the buffer at the end is what the rows from `at` on make of it, and there is room and store for them.
-use Prim.Native.Nat.{ℕ, _+_, _-_, _≤_}
+-- The invariant: the buffer at the end is what the rows from row i on make of it, and there is room and store for them.
+use Prim.Native.Nat.{ℕ, _+_, _-_, _≤_, _<_}
 use mathlib.Core.Path.{_≡_, refl, ap, _∙_}
 use native.Mathlib.Omega.{arith}
-use lib.ListN.{length, drop}
+use lib.ListN.{length}
 use lib.Seq.{sets}
 use borrow.Author.Needs.{needs}
 use Rattle.list.specs.Limits.{listLimit}
-use Rattle.list_encode.specs.Emit.{codeAhead, leftAfter, emit, sizeFrom, storedFrom}
-use Rattle.list_encode.proofs.Emits.{size-turn, stored-turn, emit-done, emit-turn}
+use Rattle.list.specs.RowBytes.{unpacked}
+use Rattle.list_rows.specs.Row.{rowsIn, rowsFrom}
+use Rattle.list_rows.specs.Emit.{codeAhead, leftAfter, emit, sizeFrom, storedFrom}
+use Rattle.list_rows.proofs.Rows.{part-length}
+use Rattle.list_rows.proofs.Sizes.{size-turn}
+use Rattle.list_encode.proofs.Emission.{turn-inside, emit-done, emit-turn}
 use Rattle.list_encode.proofs.emit.emit_rows.Statement.{statement}
 use Rattle.list_encode.proofs.emit.emit_rows.Tie as tie
 
 abbrev Inv-loop : tie.InvT-loop
-Inv-loop rows store buffer₀ at₀ left₀ used₀ end₀ buffer at left used end =
-    (sets buffer₀ 0 (emit store rows 0 0) ≡ sets buffer end (emit store (drop at rows) left used))
-    × (end + sizeFrom (drop at rows) left ≤ listLimit)
-    × (at ≤ length rows)
-    × (used + storedFrom (drop at rows) ≤ length store)
+Inv-loop rows store buffer₀ count i₀ left₀ used₀ end₀ buffer i left used end =
+    (sets buffer₀ 0 (emit store (unpacked rows) 0 0) ≡ sets buffer end (emit store (rowsFrom (unpacked rows) i) left used))
+    × (end + sizeFrom (rowsFrom (unpacked rows) i) left ≤ listLimit)
+    × (used + storedFrom (rowsFrom (unpacked rows) i) ≤ length store)
     × (length buffer ≡ length buffer₀)
 
 abbrev μ-loop : tie.MeasureT-loop
-μ-loop rows store buffer₀ at₀ left₀ used₀ end₀ buffer at left used end = length rows - at
+μ-loop rows store buffer₀ count i₀ left₀ used₀ end₀ buffer i left used end = count - i
 
 loop-holds : tie.Need-loop-holds Inv-loop μ-loop
-loop-holds c = (refl, search needs, search needs, search needs, refl)
+loop-holds c = (refl, search needs, search needs, refl)
 
-sub-loop : tie.Need-sub-loop Inv-loop μ-loop
-sub-loop c = search needs
+add-put-row : tie.Need-add-put-row Inv-loop μ-loop
+add-put-row c =
+    let x = c .before .before .before .before .before .loop in
+    let a = c .before .before .before .before .before .before .before .before .before .before .args in
+    let t = turn-inside (a .store .now) (unpacked (a .rows .now)) _ (x .i) (x .used) _ _ (c .before .before .before .before .loop-test .taken)
+    (c .before .before .before .before .before .before .row-count .ensures .0) (c .before .before .before .row-at .ensures) (c .before .stored-by .ensures .0) (x .inv .2) in
+    omega arith
 
-row-at-requires : tie.Need-row-at-requires Inv-loop μ-loop
-row-at-requires c κs = search needs
-
-add-at : tie.Need-add-at Inv-loop μ-loop
-add-at c = search needs
-
-code-ahead-requires : tie.Need-code-ahead-requires Inv-loop μ-loop
-code-ahead-requires c κs = search needs
+part-put-row-end : tie.Need-part-put-row-end Inv-loop μ-loop
+part-put-row-end c =
+    let x = c .before .before .before .before .before .loop in
+    let a = c .before .before .before .before .before .before .before .before .before .before .args in
+    let t = turn-inside (a .store .now) (unpacked (a .rows .now)) _ (x .i) (x .used) _ _ (c .before .before .before .before .loop-test .taken)
+    (c .before .before .before .before .before .before .row-count .ensures .0) (c .before .before .before .row-at .ensures) (c .before .stored-by .ensures .0) (x .inv .2) in
+    omega arith
 
 put-row-requires : tie.Need-put-row-requires Inv-loop μ-loop
 put-row-requires c κs =
-    let x = c .before .before .before .before .loop in
-    let rows = c .before .before .before .before .before .before .before .before .args .rows .now in
-    let r = c .before .before .row-at .result in
-    let fits : x .at + 3 ≤ length rows = omega (arith, c .before .before .before .loop-test .taken, x .inv .2) in (
-      omega (arith, x .inv .1, size-turn rows (x .at) fits r (c .before .before .row-at .ensures) (x .left)),
-      omega (arith, x .inv .4, c .before .before .before .before .before .before .before .before .pre .2),
-      omega (arith, x .inv .3, stored-turn rows (x .at) fits r (c .before .before .row-at .ensures)),
-    )
-
-row-size-requires : tie.Need-row-size-requires Inv-loop μ-loop
-row-size-requires c κs = search needs
-
-add-end : tie.Need-add-end Inv-loop μ-loop
-add-end c = omega (arith, c .before .before .before .before .before .before .before .before .loop .inv .1, c .row-size .ensures .1)
-
-left-after-requires : tie.Need-left-after-requires Inv-loop μ-loop
-left-after-requires c κs = search needs
-
-stored-by-requires : tie.Need-stored-by-requires Inv-loop μ-loop
-stored-by-requires c κs = search needs
+    let loop = c .before .before .before .before .before .before in
+    let x = loop .loop in
+    let a = loop .before .before .before .before .before .args in
+    let rows = unpacked (a .rows .now) in
+    let size = c .before .before .stored-by .result in
+    let t = turn-inside (a .store .now) rows _ (x .i) (x .used) _ _ (c .before .before .before .before .before .loop-test .taken)
+    (loop .before .row-count .ensures .0) (c .before .before .before .before .row-at .ensures) (c .before .before .stored-by .ensures .0) (x .inv .2) in
+    let s = size-turn rows (x .i) (omega arith) _ (c .before .before .before .before .row-at .ensures) (x .left) in
+    let e : x .used + size - x .used ≡ size = omega arith in
+    (omega arith, omega arith, rw e (part-length (a .store .now) (x .used) size (t .0) ∙ c .before .before .stored-by .ensures .0))
 
 add-used : tie.Need-add-used Inv-loop μ-loop
 add-used c =
-    let x = c .before .before .before .before .before .before .before .before .before .before .loop in
-    let rows = c .before .before .before .before .before .before .before .before .before .before .before .before .before .before .args .rows .now in
-    let r = c .before .before .before .before .before .before .before .before .row-at .result in
-    let fits : x .at + 3 ≤ length rows = omega (arith, c .before .before .before .before .before .before .before .before .before .loop-test .taken, x .inv .2) in
-    omega (arith, x .inv .3, c .stored-by .ensures .0, stored-turn rows (x .at) fits r (c .before .before .before .before .before .before .before .before .row-at .ensures))
-
-loop-less : tie.Need-loop-less Inv-loop μ-loop
-loop-less c = search needs
+    let row = c .before .before .before .before .before .before .before .before .before in
+    let x = row .before .before .loop in
+    let a = row .before .before .before .before .before .before .before .args in
+    let t = turn-inside (a .store .now) (unpacked (a .rows .now)) _ (x .i) (x .used) _ _ (row .before .loop-test .taken)
+    (row .before .before .before .row-count .ensures .0) (row .row-at .ensures) (c .before .before .before .before .before .before .before .stored-by .ensures .0) (x .inv .2) in
+    omega arith
 
 loop-again : tie.Need-loop-again Inv-loop μ-loop
 loop-again c =
-    let x = c .before .before .before .before .before .before .before .before .before .before .loop in
-    let rows = c .before .before .before .before .before .before .before .before .before .before .before .before .before .before .args .rows .now in
-    let r = c .before .before .before .before .before .before .before .before .row-at .result in
-    let fits : x .at + 3 ≤ length rows = omega (arith, c .before .before .before .before .before .before .before .before .before .loop-test .taken, x .inv .2) in
-    let s = size-turn rows (x .at) fits r (c .before .before .before .before .before .before .before .before .row-at .ensures) (x .left) in
-    let t = stored-turn rows (x .at) fits r (c .before .before .before .before .before .before .before .before .row-at .ensures) in
-    let l : c .before .left-after .result ≡ leftAfter (x .left) (codeAhead (drop (x .at + 3) rows) r) r =
-    c .before .left-after .ensures ∙ ap (λ (z : ℕ). leftAfter (x .left) z r) (c .before .before .before .before .before .before .before .code-ahead .ensures) in (
-      emit-turn _ (c .before .before .before .before .before .before .before .before .before .before .before .before .before .before .args .store .now) rows (x .buffer) (x .at) (x .left) (x .used) (x .end) (x .inv .0)
-          _ r _ _ _ _ fits (c .before .before .before .before .before .before .before .before .row-at .ensures) (omega (arith, t, x .inv .3)) (c .before .before .before .before .before .before .before .code-ahead .ensures)
-          (c .before .before .before .before .before .put-row .ensures) (c .before .before .row-size .ensures .0) (c .before .left-after .ensures) (c .stored-by .ensures .0),
-      rw l (omega (arith, x .inv .1, c .before .before .row-size .ensures .0, s)),
-      fits,
-      omega (arith, t, x .inv .3, c .stored-by .ensures .0),
+    let row = c .before .before .before .before .before .before .before .before .before in
+    let code = c .before .before .before .before .before .before .before .before .code-ahead .ensures in
+    let stored = c .before .before .before .before .before .before .before .stored-by in
+    let x = row .before .before .loop in
+    let a = row .before .before .before .before .before .before .before .args in
+    let rows = unpacked (a .rows .now) in
+    let r = row .row-at .result in
+    let size = stored .result in
+    let t = turn-inside (a .store .now) rows _ (x .i) (x .used) _ _ (row .before .loop-test .taken)
+    (row .before .before .before .row-count .ensures .0) (row .row-at .ensures) (stored .ensures .0) (x .inv .2) in
+    let more : x .i < rowsIn rows = omega arith in
+    let s = size-turn rows (x .i) more r (row .row-at .ensures) (x .left) in
+    let e : x .used + size - x .used ≡ size = omega arith in
+    let l : c .left-after .result ≡ leftAfter (x .left) (codeAhead (rowsFrom rows (x .i + 1)) r) r =
+    c .left-after .ensures ∙ ap (λ (z : ℕ). leftAfter (x .left) z r) code in (
+      emit-turn _ (a .store .now) rows (x .buffer) (x .i) (x .left) (x .used) (x .end) (x .inv .0)
+          _ r _ _ _ size more (row .row-at .ensures) (stored .ensures .0) (t .0) code
+          (rw e at (c .before .before .before .before .put-row .ensures)) (c .before .row-size .ensures .0) (c .left-after .ensures),
+      rw l (omega arith),
+      t .1,
       search needs,
     )
 
-same-length : tie.Need-same-length Inv-loop μ-loop
-same-length c = search needs
-
 returns : tie.Need-returns Inv-loop μ-loop
 returns c =
-    let a = c .before .before .before .before .before .args in
+    let a = c .before .before .before .before .before .before .args in
     let x = c .before .loop in
-    emit-done _ (a .store .now) (a .rows .now) (x .buffer) (x .at) (x .left) (x .used) (x .end) (x .inv .0) (c .loop-test .left)
+    emit-done _ (a .store .now) (unpacked (a .rows .now)) (x .buffer) (x .i) (x .left) (x .used) (x .end) (x .inv .0) (omega arith)
 
 pub emit-rows-spec : {M : Type 1} → statement M
 emit-rows-spec =
@@ -106,18 +104,22 @@ emit-rows-spec =
     (tie.spec
     Inv-loop
     μ-loop
+    (λ c κs. search needs)
     loop-holds
-    sub-loop
-    row-at-requires
-    add-at
-    code-ahead-requires
+    (λ c κs. search needs)
+    (λ c. search needs)
+    (λ c κs. search needs)
+    (λ c κs. search needs)
+    add-put-row
+    (λ c. search needs)
+    (λ c. search needs)
+    part-put-row-end
     put-row-requires
-    row-size-requires
-    add-end
-    left-after-requires
-    stored-by-requires
+    (λ c κs. search needs)
+    (λ c. omega arith)
+    (λ c κs. search needs)
     add-used
-    loop-less
+    (λ c. search needs)
     loop-again
-    same-length
+    (λ c. search needs)
     returns)

@@ -1,46 +1,31 @@
--- `list_encode::emit::put_string` meets its contract: one write behind another.
+-- `list_encode::emit::put_string` meets its contract: the terminator stands behind the bytes.
 use Prim.Native.Nat.{_+_}
-use mathlib.Core.List.{[], _∷_, _++_}
+use mathlib.Core.Path.{refl}
+use mathlib.Core.List.{_++_}
 use native.Mathlib.Omega.{arith}
 use borrow.Author.Needs.{needs}
+use Rattle.wire.proofs.Buffers.{joined}
+use Rattle.list.specs.Strings.{terminator, stringLength}
 use Rattle.list.specs.Bytes.{number}
-use Rattle.list_encode.specs.Described.{part}
-use Rattle.list_encode.proofs.Emits.{put-chain}
 use Rattle.list_encode.proofs.emit.put_string.Statement.{statement}
 use Rattle.list_encode.proofs.emit.put_string.Tie as tie
 
-add-put-number : tie.Need-add-put-number
-add-put-number c = search needs
-
-put-number-requires : tie.Need-put-number-requires
-put-number-requires c κs = search needs
-
-add-put-closed : tie.Need-add-put-closed
-add-put-closed c = search needs
-
-wide-requires : tie.Need-wide-requires
-wide-requires c κs = search needs
-
-put-closed-requires : tie.Need-put-closed-requires
-put-closed-requires c κs = search needs
-
-same-length : tie.Need-same-length
-same-length c = search needs
-
 returns : tie.Need-returns
 returns c =
-    let a = c .before .before .before .before .before .before .before .before .before .before .before .args in
-    put-chain (a .buffer .now) _ _ (a .at) _ (number (a .size + 1)) (part (a .store .now) (a .used) (a .size) ++ (0 ∷ []))
-    (c .before .before .before .before .before .before .before .put-number .ensures) (rw (c .before .before .before .wide .ensures .0) at (c .before .before .put-closed .ensures)) (omega arith)
+    let c₄ = c .before .before .before .before in
+    let a = c₄ .before .before .args in
+    rw (c₄ .before .before .pre .2)
+    (joined (a .buffer .now) (a .at) (a .at + 4 + a .size) (number (stringLength (a .size)) ++ a .bytes .now) terminator (omega arith)
+    (c .before .before .put-counted .ensures) refl)
 
 pub put-string-spec : {M : Type 1} → statement M
 put-string-spec =
     tie.close
     (tie.spec
-    add-put-number
-    put-number-requires
-    add-put-closed
-    wide-requires
-    put-closed-requires
-    same-length
+    (λ c. search needs)
+    (λ c κs. search needs)
+    (λ c. search needs)
+    (λ c. search needs)
+    (λ c. search needs)
+    (λ c. search needs)
     returns)

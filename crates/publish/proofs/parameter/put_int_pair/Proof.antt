@@ -2,26 +2,28 @@
 use Prim.Native.Nat.{_+_}
 use mathlib.Core.Path.{refl, sym}
 use mathlib.Core.List.{_++_}
+use native.Mathlib.Omega.{arith}
 use borrow.Author.Needs.{needs}
+use Rattle.wire.proofs.Buffers.{put-is, put-joined}
 use Rattle.list.specs.declared.Kind.the-variants.{Int}
 use Rattle.list.specs.Kind.{typedCode}
 use Rattle.list.specs.Bytes.{number}
-use Rattle.publish.proofs.Stores.{joined, put-as}
+use Rattle.publish.proofs.Stores.{put-as}
 use Rattle.publish.proofs.Pieces.{int-pair}
 use Rattle.publish.proofs.parameter.put_int_pair.Statement.{statement}
 use Rattle.publish.proofs.parameter.put_int_pair.Tie as tie
 
-add-put-two : tie.Need-add-put-two
-add-put-two c = search needs
+add-put-two-u32 : tie.Need-add-put-two-u32
+add-put-two-u32 c = search needs
 
-put-two-requires : tie.Need-put-two-requires
-put-two-requires c κs = search needs
+put-two-u32-requires : tie.Need-put-two-u32-requires
+put-two-u32-requires c κs = search needs
 
-add-put-two-2 : tie.Need-add-put-two-2
-add-put-two-2 c = search needs
+add-put-two-u32-2 : tie.Need-add-put-two-u32-2
+add-put-two-u32-2 c = search needs
 
-put-two-requires-2 : tie.Need-put-two-requires-2
-put-two-requires-2 c κs = search needs
+put-two-u32-requires-2 : tie.Need-put-two-u32-requires-2
+put-two-u32-requires-2 c κs = search needs
 
 add-result : tie.Need-add-result
 add-result c = search needs
@@ -31,12 +33,15 @@ same-length c = search needs
 
 returns : tie.Need-returns
 returns c =
-    let a = c .before .before .before .before .before .before .before .before .before .args in
+    let c₄ = c .before .before .before .before in
+    let c₈ = c₄ .before .before .before .before in
+    let a = c₈ .before .args in
+    let two = number (a .index) ++ number (a .x) in
     put-as (sym (int-pair (a .index) (a .x)))
     (record {
       stored =
-          joined (a .buffer .now) (a .at) (a .at + 8) (number (typedCode Int) ++ number 2) (number (a .index) ++ number (a .x)) refl
-          (c .before .before .before .before .before .before .put-two .ensures) (c .before .before .put-two2 .ensures);
+          put-joined (a .buffer .now) (a .at) (a .at + 8) (number (typedCode Int) ++ number 2) two refl (omega arith) (c₄ .before .before .put-two-u32 .ensures)
+          (put-is (c₄ .before .before .put-two-u32 .last .0) (a .at + 8) two (c .before .before .put-two-u322 .ensures) (omega arith));
       behind = refl;
     })
 
@@ -44,10 +49,10 @@ pub put-int-pair-spec : {M : Type 1} → statement M
 put-int-pair-spec =
     tie.close
     (tie.spec
-    add-put-two
-    put-two-requires
-    add-put-two-2
-    put-two-requires-2
+    add-put-two-u32
+    put-two-u32-requires
+    add-put-two-u32-2
+    put-two-u32-requires-2
     add-result
     same-length
     returns)

@@ -1,0 +1,11 @@
+pub mod Rows
+pub mod Shapes
+pub mod Walks
+pub mod Sizes
+pub mod Accepted
+pub mod Described
+pub mod Depths
+pub mod Emitted
+pub mod Judging
+pub mod Legality
+pub mod Cases
