@@ -21,19 +21,21 @@ fn put_typed(s: &[u8], x: Cursor, code: u32, n: u32, rows: &mut [u8], store: &mu
     put_run(s, y, code, n as usize, rows, store)
 }
 
-// An element that follows its code.
+// An element that follows its code. A number is read from a part of its size, so that it needs no test.
 fn put_element(s: &[u8], x: Cursor, rows: &mut [u8], store: &mut [u8]) -> Cursor
     requires { ⌜ Ready (now s) x (now rows) (now store) ⌝ }
     ensures { λ r. ⌜ Written x (elementPiece (now (s .entry)) (x .used) (x .pos)) (now (rows .entry)) (now (store .entry)) r (now (rows .exit)) (now (store .exit)) ⌝ }
 {
-    let code = u32_at(s, x.pos);
-    let first = x.pos + NUMBER;
+    let at = x.pos;
+    let first = at + NUMBER;
+    let third = first + NUMBER;
+    let code = u32_at(&s[at..first], 0);
     let behind = Cursor {
         pos: first,
         row: x.row,
         used: x.used,
     };
-    let second = u32_at(s, first);
+    let second = u32_at(&s[first..third], 0);
     match code {
         Kind::INT => put_plain(rows, behind, Kind::INT, second, 0, NUMBER),
         Kind::VOCAB => put_plain(rows, behind, Kind::VOCAB, second, 0, NUMBER),
@@ -42,7 +44,7 @@ fn put_element(s: &[u8], x: Cursor, rows: &mut [u8], store: &mut [u8]) -> Cursor
             behind,
             Kind::FLOAT,
             second,
-            u32_at(s, first + NUMBER),
+            u32_at(&s[third..third + NUMBER], 0),
             2 * NUMBER,
         ),
         Kind::STR => put_stored(s, behind, Kind::STR, TERMINATOR, rows, store),
@@ -53,7 +55,7 @@ fn put_element(s: &[u8], x: Cursor, rows: &mut [u8], store: &mut [u8]) -> Cursor
 }
 
 // The rows and the store bytes of the list of these bytes; answers the number of rows. An element takes its code and a number
-// or more: the loop tests for these, so that reading them needs no test of its own.
+// or more.
 pub fn fill(s: &[u8], rows: &mut [u8], store: &mut [u8]) -> u32
     requires { ⌜ Judged (now s) (now rows) (now store) ⌝ }
     ensures { λ r. ⌜ Filled (now (s .entry)) (now (rows .entry)) (now (store .entry)) r (now (rows .exit)) (now (store .exit)) ⌝ }

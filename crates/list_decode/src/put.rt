@@ -80,7 +80,6 @@ pub fn put_stored(
 {
     let at = x.pos;
     let first = at + NUMBER;
-    // Cut to the number's size, so that reading it needs no test.
     let length = u32_at(&s[at..first], 0);
     let stored = length - tail;
     put_row(rows, x.row, code, x.used as u32, stored);

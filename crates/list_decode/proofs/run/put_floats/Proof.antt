@@ -1,73 +1,67 @@
--- `list_decode::run::put_floats` meets its contract. The loop's invariant: the numbers behind `pos` are left to write.
-use Prim.Native.Nat.{_+_, _-_, _/_, _≤_}
-use mathlib.Core.Path.{_≡_, refl, _∙_}
+-- `list_decode::run::put_floats` meets its contract. The loop's invariant: `left` elements from `pos` on are there and left to write.
+use Prim.Native.Nat.{_+_, _*_, _≤_}
+use mathlib.Core.Path.{_≡_, _∙_}
+use mathlib.Core.List.{[]}
 use native.Mathlib.Omega.{arith}
 use lib.ListN.{length}
 use borrow.Author.Needs.{needs}
-use Rattle.list.specs.RowBytes.{packed}
-use Rattle.list_decode.specs.Pieces.{twoNumbers, run}
-use Rattle.list_decode.proofs.Writing.{Left, left-all}
-use Rattle.list_decode.proofs.Runs.{bare-fits, bare-turn, bare-done}
+use Rattle.list_decode.specs.Pieces.{cursor, twoNumbers, run}
+use Rattle.list_decode.proofs.Writing.{length-read, left-fits, Rest, rest-all}
+use Rattle.list_decode.proofs.Runs.{each-turn, each-done, first-fits, row-written}
 use Rattle.list_decode.proofs.run.put_floats.Statement.{statement}
 use Rattle.list_decode.proofs.run.put_floats.Tie as tie
 
 abbrev Inv-loop : tie.InvT-loop
-Inv-loop part rows₀ at pos₀ row₀ rows pos row =
-    (pos ≤ length part)
-    × Left rows₀ at (packed (run (twoNumbers part) (length part / 8) 0 0 .numbers)) rows row (packed (run (twoNumbers part) ((length part - pos) / 8) 0 pos .numbers))
+Inv-loop s x n rows₀ pos₀ row₀ left₀ rows pos row left =
+    (pos + 8 * left ≤ length s)
+    × Rest x (run (twoNumbers s) n (x .used) (x .pos)) rows₀ [] (cursor pos row (x .used)) (run (twoNumbers s) left (x .used) pos) rows []
 
 abbrev μ-loop : tie.MeasureT-loop
-μ-loop part rows₀ at pos₀ row₀ rows pos row = length part - pos
+μ-loop s x n rows₀ pos₀ row₀ left₀ rows pos row left = left
 
 loop-holds : tie.Need-loop-holds Inv-loop μ-loop
-loop-holds c =
-    let s = c .before .before .args .part .now in
-    let e : length s - 0 ≡ length s = omega arith in
-    (omega arith, rw e (left-all _ _ _))
+loop-holds c = let b = c .before .before in (b .pre .0, rest-all _ _ _ _)
+
+part-u32-at-end : tie.Need-part-u32-at-end Inv-loop μ-loop
+part-u32-at-end c = let l = c .before in omega (arith, l .loop .inv .0, c .loop-test .taken)
+
+part-u32-at-end-2 : tie.Need-part-u32-at-end-2 Inv-loop μ-loop
+part-u32-at-end-2 c = let l = c .before .before .before .before in omega (arith, l .loop .inv .0, c .before .before .before .loop-test .taken)
 
 put-row-requires : tie.Need-put-row-requires Inv-loop μ-loop
 put-row-requires c κs =
-    let l = c .before .before .before .before in
+    let l = c .before .before .before .before .before .before in
     let b = l .before .before .before in
-    let each = twoNumbers (b .args .part .now) in
-    let n = length (b .args .part .now) in
-    let p = l .loop .pos in
-    bare-fits each (λ used at. refl) ((n - p) / 8) ((n - (p + 8)) / 8) p (omega arith) (l .loop .inv .1) (b .pre)
-
-add-row : tie.Need-add-row Inv-loop μ-loop
-add-row c =
-    let l = c .before .before .before .before .before .before .before in
-    let b = l .before .before .before in
-    let each = twoNumbers (b .args .part .now) in
-    let n = length (b .args .part .now) in
-    let p = l .loop .pos in
-    let f = bare-fits each (λ used at. refl) ((n - p) / 8) ((n - (p + 8)) / 8) p (omega arith) (l .loop .inv .1) (b .pre) in
-    omega (arith, f, l .loop .inv .1 .size)
+    let a = b .args in
+    let some = c .before .before .before .before .before .loop-test .taken in
+    first-fits (twoNumbers (a .s .now)) (l .loop .left) (a .x .used) (l .loop .pos) (l .loop .rows) (l .loop .row) some (left-fits (l .loop .inv .1 .rows-left) (b .pre .1))
 
 loop-again : tie.Need-loop-again Inv-loop μ-loop
 loop-again c =
-    let l = c .before .before .before .before .before .before .before in
+    let w = c .before .before in
+    let h = w .before in
+    let u = h .before .before .before in
+    let l = u .before .before .before in
     let b = l .before .before .before in
-    let each = twoNumbers (b .args .part .now) in
-    let n = length (b .args .part .now) in
-    let p = l .loop .pos in
-    let w = c .before in (
-      omega arith,
-      bare-turn each (λ used at. refl) ((n - p) / 8) ((n - (p + 8)) / 8) p (omega arith) (l .loop .inv .1)
-          (record { holds = w .before .put-row .ensures ∙ rw (w .before .before .before .u32-at .ensures, w .before .before .u32-at2 .ensures); behind = omega arith }),
+    let a = b .args in
+    let some = u .before .before .loop-test .taken in
+    let at = l .loop .pos in
+    let low = length-read (a .s .now) at _ (u .u32-at .ensures) in
+    let high = length-read (a .s .now) (at + 4) _ (h .u32-at2 .ensures) in
+    let next : at + 4 + 4 ≡ at + 8 = omega arith in (
+      omega (arith, l .loop .inv .0, some),
+      each-turn (twoNumbers (a .s .now)) (l .loop .left) some (l .loop .inv .1)
+          (rw next (row-written _ _ _ at (at + 8) (l .loop .row) (a .x .used) (w .put-row .ensures ∙ rw (low, high)))),
     )
 
 same-length : tie.Need-same-length Inv-loop μ-loop
-same-length c = c .before .loop .inv .1 .size
+same-length c = c .before .loop .inv .1 .rows-left .size
 
 returns : tie.Need-returns Inv-loop μ-loop
 returns c =
     let l = c .before in
-    let b = l .before .before .before in
-    let each = twoNumbers (b .args .part .now) in
-    let n = length (b .args .part .now) in
-    let p = l .loop .pos in
-    bare-done each ((n - p) / 8) p (omega (arith, c .loop-test .left)) (l .loop .inv .1)
+    let a = l .before .before .before .args in
+    each-done (twoNumbers (a .s .now)) (l .loop .left) (omega (arith, c .loop-test .left)) (l .loop .inv .1)
 
 pub put-floats-spec : {M : Type 1} → statement M
 put-floats-spec =
@@ -78,13 +72,17 @@ put-floats-spec =
     loop-holds
     (λ c. search needs)
     (λ c. search needs)
+    (λ c. search needs)
+    (λ c. search needs)
+    part-u32-at-end
     (λ c κs. search needs)
     (λ c. search needs)
+    (λ c. search needs)
+    part-u32-at-end-2
     (λ c κs. search needs)
     put-row-requires
     (λ c. search needs)
     (λ c. search needs)
-    add-row
     (λ c. search needs)
     loop-again
     same-length

@@ -1,72 +1,67 @@
--- `list_decode::run::put_numbers` meets its contract. The loop's invariant: the numbers behind `pos` are left to write.
-use Prim.Native.Nat.{_+_, _-_, _/_, _≤_}
-use mathlib.Core.Path.{_≡_, refl, _∙_}
+-- `list_decode::run::put_numbers` meets its contract. The loop's invariant: `left` elements from `pos` on are there and left to write.
+use Prim.Native.Nat.{_+_, _*_, _≤_}
+use mathlib.Core.Path.{_∙_}
+use mathlib.Core.List.{[]}
 use native.Mathlib.Omega.{arith}
 use lib.ListN.{length}
 use borrow.Author.Needs.{needs}
-use Rattle.list.specs.RowBytes.{packed}
-use Rattle.list_decode.specs.Pieces.{oneNumber, run}
-use Rattle.list_decode.proofs.Writing.{Left, left-all}
-use Rattle.list_decode.proofs.Runs.{bare-fits, bare-turn, bare-done}
+use Rattle.list_decode.specs.Pieces.{cursor, oneNumber, run}
+use Rattle.list_decode.proofs.Writing.{length-read, left-fits, Rest, rest-all}
+use Rattle.list_decode.proofs.Runs.{each-turn, each-done, first-fits, row-written}
 use Rattle.list_decode.proofs.run.put_numbers.Statement.{statement}
 use Rattle.list_decode.proofs.run.put_numbers.Tie as tie
 
 abbrev Inv-loop : tie.InvT-loop
-Inv-loop part code rows₀ at pos₀ row₀ rows pos row =
-    (pos ≤ length part)
-    × Left rows₀ at (packed (run (oneNumber part code) (length part / 4) 0 0 .numbers)) rows row (packed (run (oneNumber part code) ((length part - pos) / 4) 0 pos .numbers))
+Inv-loop s x code n rows₀ pos₀ row₀ left₀ rows pos row left =
+    (pos + 4 * left ≤ length s)
+    × Rest x (run (oneNumber s code) n (x .used) (x .pos)) rows₀ [] (cursor pos row (x .used)) (run (oneNumber s code) left (x .used) pos) rows []
 
 abbrev μ-loop : tie.MeasureT-loop
-μ-loop part code rows₀ at pos₀ row₀ rows pos row = length part - pos
+μ-loop s x code n rows₀ pos₀ row₀ left₀ rows pos row left = left
 
 loop-holds : tie.Need-loop-holds Inv-loop μ-loop
-loop-holds c =
-    let s = c .before .before .args .part .now in
-    let e : length s - 0 ≡ length s = omega arith in
-    (omega arith, rw e (left-all _ _ _))
+loop-holds c = let b = c .before .before in (b .pre .0, rest-all _ _ _ _)
+
+add-next : tie.Need-add-next Inv-loop μ-loop
+add-next c = search needs
+
+part-u32-at-end : tie.Need-part-u32-at-end Inv-loop μ-loop
+part-u32-at-end c = let l = c .before .before in omega (arith, l .loop .inv .0, c .before .loop-test .taken)
 
 put-row-requires : tie.Need-put-row-requires Inv-loop μ-loop
 put-row-requires c κs =
-    let l = c .before .before .before in
+    let l = c .before .before .before .before in
     let b = l .before .before .before in
-    let each = oneNumber (b .args .part .now) (b .args .code) in
-    let n = length (b .args .part .now) in
-    let p = l .loop .pos in
-    bare-fits each (λ used at. refl) ((n - p) / 4) ((n - (p + 4)) / 4) p (omega arith) (l .loop .inv .1) (b .pre)
+    let a = b .args in
+    first-fits (oneNumber (a .s .now) (a .code)) (l .loop .left) (a .x .used) (l .loop .pos) (l .loop .rows) (l .loop .row) (c .before .before .before .loop-test .taken)
+    (left-fits (l .loop .inv .1 .rows-left) (b .pre .1))
 
 add-row : tie.Need-add-row Inv-loop μ-loop
-add-row c =
-    let l = c .before .before .before .before .before .before in
-    let b = l .before .before .before in
-    let each = oneNumber (b .args .part .now) (b .args .code) in
-    let n = length (b .args .part .now) in
-    let p = l .loop .pos in
-    let f = bare-fits each (λ used at. refl) ((n - p) / 4) ((n - (p + 4)) / 4) p (omega arith) (l .loop .inv .1) (b .pre) in
-    omega (arith, f, l .loop .inv .1 .size)
+add-row c = search needs
 
 loop-again : tie.Need-loop-again Inv-loop μ-loop
 loop-again c =
-    let l = c .before .before .before .before .before .before in
+    let w = c .before .before in
+    let u = w .before in
+    let l = u .before .before .before .before in
     let b = l .before .before .before in
-    let each = oneNumber (b .args .part .now) (b .args .code) in
-    let n = length (b .args .part .now) in
-    let p = l .loop .pos in (
-      omega arith,
-      bare-turn each (λ used at. refl) ((n - p) / 4) ((n - (p + 4)) / 4) p (omega arith) (l .loop .inv .1)
-          (record { holds = c .before .before .put-row .ensures ∙ rw (c .before .before .before .u32-at .ensures); behind = omega arith }),
+    let a = b .args in
+    let some = u .before .before .before .loop-test .taken in
+    let at = l .loop .pos in
+    let read = length-read (a .s .now) at _ (u .u32-at .ensures) in (
+      omega (arith, l .loop .inv .0, some),
+      each-turn (oneNumber (a .s .now) (a .code)) (l .loop .left) some (l .loop .inv .1)
+          (row-written (a .code) _ 0 at (at + 4) (l .loop .row) (a .x .used) (w .put-row .ensures ∙ rw read)),
     )
 
 same-length : tie.Need-same-length Inv-loop μ-loop
-same-length c = c .before .loop .inv .1 .size
+same-length c = c .before .loop .inv .1 .rows-left .size
 
 returns : tie.Need-returns Inv-loop μ-loop
 returns c =
     let l = c .before in
-    let b = l .before .before .before in
-    let each = oneNumber (b .args .part .now) (b .args .code) in
-    let n = length (b .args .part .now) in
-    let p = l .loop .pos in
-    bare-done each ((n - p) / 4) p (omega (arith, c .loop-test .left)) (l .loop .inv .1)
+    let a = l .before .before .before .args in
+    each-done (oneNumber (a .s .now) (a .code)) (l .loop .left) (omega (arith, c .loop-test .left)) (l .loop .inv .1)
 
 pub put-numbers-spec : {M : Type 1} → statement M
 put-numbers-spec =
@@ -75,11 +70,14 @@ put-numbers-spec =
     Inv-loop
     μ-loop
     loop-holds
+    add-next
     (λ c. search needs)
+    (λ c. search needs)
+    part-u32-at-end
     (λ c κs. search needs)
     put-row-requires
-    (λ c. search needs)
     add-row
+    (λ c. search needs)
     (λ c. search needs)
     loop-again
     same-length

@@ -6,13 +6,13 @@ use Rattle.list.specs.Kind.{kindOf}
 use Rattle.list.proofs.Codes.{kind-of-code}
 use Rattle.list_decode.specs.Pieces.{oneNumber, twoNumbers, run}
 use Rattle.list_decode.proofs.Writing.{no-bytes}
-use Rattle.list_decode.proofs.Runs.{fixed-number, fixed-float, fixed-bare, number-kind}
+use Rattle.list_decode.proofs.Runs.{bare-run, number-kind}
 use borrow.Author.Needs.{needs}
 use Rattle.list_decode.proofs.run.put_run.Statement.{statement}
 use Rattle.list_decode.proofs.run.put_run.Tie as tie
 
-put-float-run-requires : tie.Need-put-float-run-requires
-put-float-run-requires c κs =
+put-floats-requires : tie.Need-put-floats-requires
+put-floats-requires c κs =
     let b = c .before .before .before .before .before in
     let k : kindOf (b .args .code) ≡ Is Float = ap kindOf (c .before .match .keys1) ∙ kind-of-code Float in
     let f = rw k at (b .pre) in
@@ -30,8 +30,8 @@ put-each-requires-2 c κs =
     let k : kindOf (b .args .code) ≡ Is Blob = ap kindOf (c .before .before .match .keys3) ∙ kind-of-code Blob in
     rw k at (b .pre)
 
-put-number-run-requires : tie.Need-put-number-run-requires
-put-number-run-requires c κs =
+put-numbers-requires : tie.Need-put-numbers-requires
+put-numbers-requires c κs =
     let m = c .before .match .rest in
     let b = c .before .before .before .before .before in
     let a = b .args in
@@ -43,8 +43,8 @@ returns c =
     let b = c .before .before .before .before .before .before .before .before in
     let k : kindOf (b .args .code) ≡ Is Float = ap kindOf (c .before .before .before .before .match .keys1) ∙ kind-of-code Float in
     let a = b .args in
-    rw k (no-bytes (run (twoNumbers (a .s .now)) (a .n) (a .x .used) (a .x .pos)) (fixed-bare 8 twoNumbers fixed-float (a .s .now) (a .n) (a .x .used) (a .x .pos))
-    (a .store .now) (c .before .before .put-float-run .ensures))
+    rw k (no-bytes (run (twoNumbers (a .s .now)) (a .n) (a .x .used) (a .x .pos)) (bare-run (twoNumbers (a .s .now)) (λ used at. refl) (a .n) (a .x .used) (a .x .pos))
+    (a .store .now) (c .before .before .put-floats .ensures))
 
 returns-2 : tie.Need-returns-2
 returns-2 c =
@@ -64,17 +64,17 @@ returns-4 c =
     let b = c .before .before .before .before .before .before .before .before in
     let a = b .args in
     let w = number-kind (a .s .now) (a .code) (a .n) (a .x .used) (a .x .pos) (kindOf (a .code)) refl (b .pre .0) (m .0 .0 .1) (m .0 .1) (m .1) in
-    let e = fixed-bare 4 (λ s. oneNumber s (a .code)) (fixed-number (a .code)) (a .s .now) (a .n) (a .x .used) (a .x .pos) in
-    rw (w .1) (no-bytes (run (oneNumber (a .s .now) (a .code)) (a .n) (a .x .used) (a .x .pos)) e (a .store .now) (c .before .before .put-number-run .ensures))
+    let e = bare-run (oneNumber (a .s .now) (a .code)) (λ used at. refl) (a .n) (a .x .used) (a .x .pos) in
+    rw (w .1) (no-bytes (run (oneNumber (a .s .now) (a .code)) (a .n) (a .x .used) (a .x .pos)) e (a .store .now) (c .before .before .put-numbers .ensures))
 
 pub put-run-spec : {M : Type 1} → statement M
 put-run-spec =
     tie.close
     (tie.spec
-    put-float-run-requires
+    put-floats-requires
     put-each-requires
     put-each-requires-2
-    put-number-run-requires
+    put-numbers-requires
     (λ c. search needs)
     returns
     (λ c. search needs)
