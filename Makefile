@@ -1,7 +1,7 @@
 # make demo   proves and builds everything, then replays the evening of the faulty sensor
 # make test   the gate: layout, every proof from nothing, then the tests from outside
 # make fuzz   compares the product with the second reader for SECONDS seconds
-# make bench  time and instructions of the archive and the hub against the second reader and plain C
+# make bench  time and instructions of the archive against the second reader and plain C
 
 .PHONY: demo test layout outside built fuzz bench
 
@@ -25,8 +25,8 @@ layout:
 
 # The programs and the archive, each proved before it is built.
 built:
-	rt check run replay write
-	rt staticlib display
+	rt check run replay
+	rt staticlib cinder
 
 outside: built
 	tests/run_cases.sh
@@ -37,5 +37,4 @@ fuzz: built
 	$(MAKE) --no-print-directory -C tests fuzz
 
 bench: built
-	rt check bench_hub
 	$(MAKE) --no-print-directory -C tests bench

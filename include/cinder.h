@@ -1,5 +1,6 @@
 /*
- * The readers for the display firmware. Link with libdisplay.a.
+ * Packets, lists and the hub for firmware: the readers of the display, the calls of the
+ * hub, and the writers. Link with libcinder.a.
  *
  * Every call answers for every content of its areas. The caller answers for one thing:
  * each area is there, is as long as its length says, and shares no byte with another
@@ -54,16 +55,16 @@ cinder_packet_result cinder_packet_decode(const uint8_t *bytes, size_t bytes_len
 #define CINDER_STORE_ROOM 4096
 
 typedef struct {
-    uint64_t error, consumed, rows, offset;
+    uint64_t error, consumed, rows, offset, stored;
 } cinder_list_result;
 
 /*
  * Reads the list at the front of `bytes`; later bytes are ignored.
  *
- * On success error and offset are 0, consumed is the size of the list in bytes and rows
- * is the number of its rows. The rows stand at the front of `rows`: 12 bytes each, three
- * numbers of 32 bits, in the order of the list's bytes, so a list before its elements and
- * all of an element before the next:
+ * On success error and offset are 0, consumed is the size of the list in bytes, rows is
+ * the number of its rows and stored the number of store bytes in use. The rows stand at
+ * the front of `rows`: 12 bytes each, three numbers of 32 bits, in the order of the list's
+ * bytes, so a list before its elements and all of an element before the next:
  *
  *   list    256, number of elements, 0
  *   int       1, bits, 0
@@ -72,12 +73,13 @@ typedef struct {
  *   string    4, offset in the store, length without the closing zero
  *   blob     12, offset in the store, length
  *
- * The strings and blobs stand at the front of `store`, back to back in row order. Nothing
- * behind the rows or behind the last byte stored has changed.
+ * The strings and blobs stand at the front of `store`, back to back in row order: stored
+ * bytes. Nothing behind the rows or behind the last byte stored has changed. The rows and
+ * the store bytes in use are what cinder_list_encode asks to write the list again.
  *
- * On an error consumed and rows are 0 and both areas are as they were. Error is 20 at
- * offset 0 or else the first fault from the front, and offset is where the item at fault
- * begins:
+ * On an error consumed, rows and stored are 0 and both areas are as they were. Error is
+ * 20 at offset 0 or else the first fault from the front, and offset is where the item at
+ * fault begins:
  *
  *   20  rows_len is below CINDER_ROWS_ROOM, or store_len is below CINDER_STORE_ROOM
  *
@@ -106,12 +108,12 @@ cinder_list_result cinder_list_decode(const uint8_t *bytes, size_t bytes_len, ui
  * On success the answer and both areas are as cinder_list_decode has them for the bytes
  * from `offset` on.
  *
- * At the end of the stream, where offset is bytes_len, all four numbers are 0 and both
+ * At the end of the stream, where offset is bytes_len, all five numbers are 0 and both
  * areas are as they were. No other answer has error 0 and consumed 0. Only error 20 is
  * judged before the end.
  *
- * On an error consumed and rows are 0 and both areas are as they were. Error is the first
- * of these, in this order:
+ * On an error consumed, rows and stored are 0 and both areas are as they were. Error is
+ * the first of these, in this order:
  *
  *   20  rows_len is below CINDER_ROWS_ROOM, or store_len is below CINDER_STORE_ROOM; its
  *       offset is 0
@@ -121,6 +123,166 @@ cinder_list_result cinder_list_decode(const uint8_t *bytes, size_t bytes_len, ui
  * from the front of `bytes`.
  */
 cinder_list_result cinder_stream_next(const uint8_t *bytes, size_t bytes_len, uint64_t offset, uint8_t *rows, size_t rows_len, uint8_t *store, size_t store_len);
+
+/* The length of a table area: no other is a table. */
+#define CINDER_TABLE_ROOM 688
+
+/*
+ * The hub's table is an area of the caller's, which the calls below read and change. It
+ * has four rows of 172 bytes back to back, one for each device that is seated:
+ *
+ *     0        1 if the row is taken, 0 if it is empty
+ *     1        socket, 0 to 7
+ *     2        device type
+ *     3        year
+ *     4 to 11  UID
+ *    12 to 43  for each of 32 parameters, 1 if a value is held, else 0
+ *    44 to 171 for each of 32 parameters, the 4 bytes of its value; a flag is 0 or 1
+ *
+ * All zeros is an empty row, and CINDER_TABLE_ROOM zeros are an empty table. A table is
+ * lawful if it has that length, bytes that say yes or no are 0 or 1, empty rows and
+ * values that are not held are zeros, sockets are 0 to 7, no two taken rows have the same
+ * socket or the same UID, each device type is in the catalogue, and each held value is of
+ * a readable parameter of that type, and 0 or 1 if it is a flag.
+ *
+ * The catalogue is an area that the calls only read: a count of device types, 0 to 32;
+ * for each its number and its number of parameters, 0 to 32, the type numbers strictly rising; the
+ * sum of the numbers of parameters in two bytes, low byte first; and a byte for each
+ * parameter: 0 INT, 1 FLOAT or 2 BOOL, 4 added if it is readable and 8 if it is writable.
+ * Nothing follows.
+ *
+ * Sockets and indices are whole numbers of 64 bits: 259 is socket 259, not socket 3.
+ */
+
+/*
+ * Receives the packet at the front of `bytes` from a socket; later bytes are ignored.
+ *
+ * On success error is 0 and consumed is the size of the packet. An ACK has seated the
+ * device with no values held, in the row of its socket or else in the first empty one.
+ * DEVICE_DATA has replaced the values that its map names and no others. A LOG changes
+ * nothing. No byte outside the row of the socket has changed.
+ *
+ * On an error consumed is 0, `table` is as it was, and error is the first of these, in
+ * this order:
+ *
+ *   11  the catalogue is not as above
+ *    9  the table is not lawful
+ *   10  socket is above 7
+ *    1 to 8  as cinder_packet_decode gives them
+ *   19  the packet is a PING or a DEVICE_WRITE
+ *
+ * for an ACK then
+ *
+ *   12  its device type is not in the catalogue
+ *   14  its UID is seated at another socket
+ *   13  the socket has no row, and all four are taken
+ *
+ * and for DEVICE_DATA
+ *
+ *   15  no device is seated at the socket
+ *   16  a bit of the map has no readable parameter
+ *   17  the values are longer or shorter than the map asks
+ *   18  a flag is neither 0 nor 1
+ */
+cinder_packet_result cinder_hub_receive(const uint8_t *catalogue, size_t catalogue_len, uint8_t *table, size_t table_len, uint64_t socket, const uint8_t *bytes, size_t bytes_len);
+
+/*
+ * The device at a socket leaves: its row becomes zeros, and nothing else changes.
+ *
+ * Answers 0, or the error. On an error `table` is as it was; the error is the first of
+ * these, in this order:
+ *
+ *   11  the catalogue is not as above
+ *    9  the table is not lawful
+ *   10  socket is above 7
+ *   15  no device is seated at the socket
+ */
+uint64_t cinder_hub_detach(const uint8_t *catalogue, size_t catalogue_len, uint8_t *table, size_t table_len, uint64_t socket);
+
+/* The least length of an area that a list is written to. */
+#define CINDER_LIST_ROOM 4096
+
+typedef struct {
+    uint64_t error, written;
+} cinder_write_result;
+
+/*
+ * Writes the table as one list to the front of `list`: an element for each seated socket,
+ * in rising order, which is a list of the socket and the device type (ints), the UID
+ * (blob), and for each held value in rising order a list of its index (int) and the value.
+ * INT and BOOL are ints; FLOAT is the float of exactly the same value, and infinities and
+ * NaNs keep their sign, their fraction moved 29 bits up.
+ *
+ * On success error is 0 and written is the size of the list in bytes, at most 3,752.
+ * Nothing behind them has changed.
+ *
+ * On an error written is 0, `list` is as it was, and error is the first of these, in this
+ * order:
+ *
+ *   11  the catalogue is not as above
+ *    9  the table is not lawful
+ *   20  list_len is below CINDER_LIST_ROOM
+ */
+cinder_write_result cinder_hub_publish(const uint8_t *catalogue, size_t catalogue_len, const uint8_t *table, size_t table_len, uint8_t *list, size_t list_len);
+
+typedef struct {
+    uint64_t error, kind, bits;
+} cinder_value_result;
+
+/*
+ * Reads one parameter of the device at a socket.
+ *
+ * On success error is 0, kind says what is held, and bits is the value:
+ *
+ *    0  absent; bits is 0. So is every index above 31
+ *    1  int; the 32 bits of the number
+ *    2  float; the 32 bits of the single, NaNs as they were sent
+ *    3  flag; 0 or 1
+ *
+ * On an error kind and bits are 0, and error is the first of these, in this order:
+ *
+ *   11  the catalogue is not as above
+ *    9  the table is not lawful
+ *   10  socket is above 7
+ *   15  no device is seated at the socket
+ */
+cinder_value_result cinder_hub_read(const uint8_t *catalogue, size_t catalogue_len, const uint8_t *table, size_t table_len, uint64_t socket, uint64_t index);
+
+/*
+ * Writes the packet of a type and a payload to the front of `packet`. What the payload
+ * says is not judged.
+ *
+ * On success error is 0 and written is the size of the packet: payload_len + 6 bytes.
+ * Nothing behind them has changed.
+ *
+ * On an error written is 0, `packet` is as it was, and error is the first of these, in
+ * this order:
+ *
+ *   20  packet_len is below CINDER_PACKET_ROOM
+ *    8  the type is unknown, or does not allow that payload length: 1 PING 0 bytes, 2 ACK
+ *       10, 3 DEVICE_WRITE and 4 DEVICE_DATA 4 to 132, 5 LOG 0 to 251. 257 is type 257
+ */
+cinder_write_result cinder_packet_encode(uint64_t type, const uint8_t *payload, size_t payload_len, uint8_t *packet, size_t packet_len);
+
+/*
+ * Writes the list that `rows` and `store` describe to the front of `list`. Both are just
+ * what is in use: rows as cinder_list_decode has them, 12 bytes each, and the bytes of
+ * their strings and blobs back to back in row order. What decoding gave is written as the
+ * bytes that were decoded.
+ *
+ * On success error is 0 and written is the size of the list in bytes. Nothing behind them
+ * has changed.
+ *
+ * On an error written is 0, `list` is as it was, and error is the first of these, in this
+ * order:
+ *
+ *   20  list_len is below CINDER_LIST_ROOM
+ *   30  rows and store do not describe exactly one list; so it is where rows_len is no
+ *       multiple of 12
+ *   27  a list is nested deeper than 8
+ *   28  the list would have more than 4,096 bytes
+ */
+cinder_write_result cinder_list_encode(const uint8_t *rows, size_t rows_len, const uint8_t *store, size_t store_len, uint8_t *list, size_t list_len);
 
 #ifdef __cplusplus
 }

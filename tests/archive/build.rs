@@ -1,4 +1,4 @@
-//! Links target/staticlib/libdisplay.a of this repository, or the archive in the
+//! Links target/staticlib/libcinder.a of this repository, or the archive in the
 //! folder that CINDER_ARCHIVE_DIR names.
 
 use std::env;
@@ -13,12 +13,12 @@ fn main() {
             Path::new(&env::var_os("CARGO_MANIFEST_DIR").unwrap()).join("../../target/staticlib")
         }
     };
-    let archive = folder.join("libdisplay.a");
+    let archive = folder.join("libcinder.a");
     if !archive.is_file() {
-        eprintln!("no archive at {}: build it with `rt staticlib display`", archive.display());
+        eprintln!("no archive at {}: build it with `rt staticlib cinder`", archive.display());
         std::process::exit(1);
     }
     println!("cargo:rerun-if-changed={}", archive.display());
     println!("cargo:rustc-link-search=native={}", folder.display());
-    println!("cargo:rustc-link-lib=static:-bundle=display");
+    println!("cargo:rustc-link-lib=static:-bundle=cinder");
 }

@@ -18,7 +18,7 @@ int holds(const uint8_t *buffer, size_t length, const uint8_t *front, size_t fro
 /* Counts one check and prints its name and the case's when it failed. */
 void check(int passed, const char *case_name, const char *what);
 
-/* Prints the tally; the program's exit status. */
+/* Prints the tally; the program's exit status, which is no success without a check. */
 int finish(void);
 
 #endif

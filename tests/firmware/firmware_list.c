@@ -13,13 +13,15 @@ static void check_answer(cinder_list_result found, cinder_list_result owed, cons
     check(found.consumed == owed.consumed, name, "consumed");
     check(found.rows == owed.rows, name, "rows");
     check(found.offset == owed.offset, name, "offset");
+    check(found.stored == owed.stored, name, "stored");
 }
 
 static void decode_into(const struct list_case *given, size_t rows_room, size_t store_room)
 {
-    static const cinder_list_result too_small = {20, 0, 0, 0};
+    static const cinder_list_result too_small = {.error = 20};
     int large_enough = rows_room >= ROWS_ROOM && store_room >= STORE_ROOM;
-    cinder_list_result owed = {given->error, given->consumed, given->row_count, given->offset};
+    cinder_list_result owed = {given->error, given->consumed, given->row_count, given->offset,
+                               given->store_length};
     size_t length;
     uint8_t *bytes = list_bytes(given, &length);
     uint8_t *wanted_rows = list_rows(given);
@@ -62,7 +64,8 @@ static void check_cut(const struct list_case *given)
         uint8_t *store = new_buffer(STORE_ROOM);
         cinder_list_result found =
             cinder_list_decode(bytes, there, rows, ROWS_ROOM, store, STORE_ROOM);
-        check(found.error == 21 && found.consumed == 0 && found.rows == 0, given->name, "cut");
+        check(found.error == 21 && found.consumed == 0 && found.rows == 0 && found.stored == 0,
+              given->name, "cut");
         check(found.offset <= there, given->name, "offset of the cut");
         check(holds(rows, ROWS_ROOM, NULL, 0), given->name, "rows buffer when cut");
         check(holds(store, STORE_ROOM, NULL, 0), given->name, "store buffer when cut");
@@ -73,24 +76,14 @@ static void check_cut(const struct list_case *given)
     }
 }
 
-/* A typed list of ints of 0, 1, 2 .. with this count, of which `there` bytes are given. */
+/* A typed list of ints with this count, of which `there` bytes are given. */
 static void check_ints(uint32_t count, size_t there, cinder_list_result owed, const char *name)
 {
     uint8_t *bytes = new_buffer(there);
     uint8_t *rows = new_buffer(ROWS_ROOM);
     uint8_t *store = new_buffer(STORE_ROOM);
-    uint8_t *wanted = new_buffer(ROWS_ROOM);
-    uint32_t header[2] = {257, count};
-    put_words(bytes, header, 2);
-    for (uint32_t at = 2; at < there / 4; at++) {
-        uint32_t value = at - 2;
-        put_words(bytes + 4 * (size_t)at, &value, 1);
-    }
-    for (uint32_t row = 0; row < owed.rows; row++) {
-        uint32_t list_row[3] = {256, count, 0};
-        uint32_t int_row[3] = {1, row - 1, 0};
-        put_words(wanted + ROW_BYTES * (size_t)row, row == 0 ? list_row : int_row, 3);
-    }
+    uint8_t *wanted = int_rows(owed.rows);
+    put_ints(bytes, there, count);
     check_answer(cinder_list_decode(bytes, there, rows, ROWS_ROOM, store, STORE_ROOM), owed, name);
     check(holds(rows, ROWS_ROOM, wanted, ROW_BYTES * owed.rows), name, "rows buffer");
     check(holds(store, STORE_ROOM, NULL, 0), name, "store buffer");
@@ -119,30 +112,32 @@ static void check_blob_up_to(uint32_t end, uint32_t count, cinder_list_result ow
 
 static void check_limit(void)
 {
-    static const cinder_list_result full = {0, 4096, 1023, 0};
-    static const cinder_list_result beyond = {28, 0, 0, 4096};
+    static const cinder_list_result full = {.consumed = 4096, .rows = 1023};
+    static const cinder_list_result beyond = {.error = 28, .offset = 4096};
     check_ints(1022, 4096, full, "1,022 ints");
     check_ints(1022, 4100, full, "1,022 ints and later bytes");
     check_ints(1023, 4100, beyond, "1,023 ints");
     check_ints(1023, 4096, beyond, "1,023 ints, the last not there");
-    check_ints(1023, 4092, (cinder_list_result){21, 0, 0, 4092}, "1,023 ints, two not there");
+    check_ints(1023, 4092, (cinder_list_result){.error = 21, .offset = 4092},
+               "1,023 ints, two not there");
     check_ints(0x7fffffff, 5000, beyond, "as many ints as a count can say");
-    check_blob_up_to(4096, 1, (cinder_list_result){24, 0, 0, 0});
+    check_blob_up_to(4096, 1, (cinder_list_result){.error = 24});
     check_blob_up_to(4096, 2, beyond);
-    check_blob_up_to(4093, 2, (cinder_list_result){28, 0, 0, 4093});
-    check_blob_up_to(4092, 2, (cinder_list_result){21, 0, 0, 4092});
+    check_blob_up_to(4093, 2, (cinder_list_result){.error = 28, .offset = 4093});
+    check_blob_up_to(4092, 2, (cinder_list_result){.error = 21, .offset = 4092});
 }
 
 /* "A pointer with length 0 may be null." */
 static void check_null(void)
 {
-    uint8_t *rows = new_buffer(CINDER_ROWS_ROOM);
-    uint8_t *store = new_buffer(CINDER_STORE_ROOM);
-    cinder_list_result answer = cinder_list_decode(NULL, 0, rows, CINDER_ROWS_ROOM, store, CINDER_STORE_ROOM);
-    check(answer.error == 21 && answer.consumed == 0 && answer.rows == 0 && answer.offset == 0, "null bytes", "answer");
-    check(holds(rows, CINDER_ROWS_ROOM, NULL, 0) && holds(store, CINDER_STORE_ROOM, NULL, 0), "null bytes", "areas");
-    answer = cinder_list_decode(NULL, 0, NULL, 0, NULL, 0);
-    check(answer.error == 20 && answer.consumed == 0 && answer.rows == 0 && answer.offset == 0, "null areas", "answer");
+    uint8_t *rows = new_buffer(ROWS_ROOM);
+    uint8_t *store = new_buffer(STORE_ROOM);
+    check_answer(cinder_list_decode(NULL, 0, rows, ROWS_ROOM, store, STORE_ROOM),
+                 (cinder_list_result){.error = 21}, "null bytes");
+    check(holds(rows, ROWS_ROOM, NULL, 0), "null bytes", "rows buffer");
+    check(holds(store, STORE_ROOM, NULL, 0), "null bytes", "store buffer");
+    check_answer(cinder_list_decode(NULL, 0, NULL, 0, NULL, 0),
+                 (cinder_list_result){.error = 20}, "null buffers");
     free(store);
     free(rows);
 }

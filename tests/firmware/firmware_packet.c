@@ -3,11 +3,10 @@
 
 #include "checks.h"
 #include "cinder.h"
+#include "packets.h"
 
 #include <stdlib.h>
 #include <string.h>
-
-enum { PACKET_ROOM = 257, PAYLOAD_LIMIT = 251 };
 
 /* A packet as it is handed over and the answer owed. On an error consumed is 0 and
  * there is no message. */
@@ -81,54 +80,6 @@ static void check_table(void)
             decode_into(&cases[at], rooms[room]);
 }
 
-/* Puts 00, L and the blocks of a message behind it, whatever the message says. Answers the
- * packet's length. */
-static size_t packet_of(const uint8_t *message, size_t length, uint8_t *packet)
-{
-    size_t code_at = 2;
-    packet[0] = 0;
-    packet[1] = (uint8_t)(length + 1);
-    for (size_t at = 0; at < length; at++) {
-        packet[3 + at] = message[at];
-        if (message[at] == 0) {
-            packet[code_at] = (uint8_t)(3 + at - code_at);
-            code_at = 3 + at;
-        }
-    }
-    packet[code_at] = (uint8_t)(3 + length - code_at);
-    return length + 3;
-}
-
-/* A message with this many payload bytes, some of them 0. Answers the message's length. */
-static size_t message_of(uint8_t type, size_t payload_length, uint8_t *message)
-{
-    message[0] = type;
-    message[1] = (uint8_t)payload_length;
-    for (size_t at = 0; at < payload_length; at++)
-        message[2 + at] = (uint8_t)(at % 7 * (at + 1));
-    message[2 + payload_length] = 0;
-    for (size_t at = 0; at < 2 + payload_length; at++)
-        message[2 + payload_length] ^= message[at];
-    return payload_length + 3;
-}
-
-static int payload_allowed(int type, size_t length)
-{
-    switch (type) {
-    case 1:
-        return length == 0;
-    case 2:
-        return length == 10;
-    case 3:
-    case 4:
-        return length >= 4 && length <= 132;
-    case 5:
-        return length <= PAYLOAD_LIMIT;
-    default:
-        return 0;
-    }
-}
-
 /* The first bytes of a packet that as a whole gives this error, or none. */
 static void check_cut(const uint8_t *packet, size_t length, size_t there, uint64_t error,
                       const uint8_t *message)
@@ -148,11 +99,12 @@ static void check_cut(const uint8_t *packet, size_t length, size_t there, uint64
 /* LOG with 251 bytes of 11: one block of code 255, which is the whole part. */
 static void check_whole_block(void)
 {
-    uint8_t message[PACKET_ROOM] = {5, PAYLOAD_LIMIT};
+    uint8_t payload[PAYLOAD_LIMIT];
+    uint8_t message[PACKET_ROOM];
     uint8_t packet[PACKET_ROOM];
-    memset(message + 2, 11, PAYLOAD_LIMIT);
-    message[2 + PAYLOAD_LIMIT] = 5 ^ PAYLOAD_LIMIT ^ 11;
-    size_t length = packet_of(message, PAYLOAD_LIMIT + 3, packet);
+    memset(payload, 11, PAYLOAD_LIMIT);
+    size_t message_length = message_with(LOG, payload, PAYLOAD_LIMIT, message);
+    size_t length = packet_of(message, message_length, packet);
     check(length == PACKET_ROOM && packet[2] == 255, "one block of code 255", "packet");
     check_cut(packet, length, length, 0, message);
 }
@@ -162,11 +114,14 @@ static void check_types_and_lengths(void)
 {
     for (int type = 0; type <= 6; type++) {
         for (size_t payload_length = 0; payload_length <= PAYLOAD_LIMIT; payload_length++) {
+            uint8_t payload[PAYLOAD_LIMIT];
             uint8_t message[PACKET_ROOM];
             uint8_t packet[PACKET_ROOM];
-            size_t message_length = message_of((uint8_t)type, payload_length, message);
+            put_payload(payload, payload_length);
+            size_t message_length =
+                message_with((uint8_t)type, payload, payload_length, message);
             size_t length = packet_of(message, message_length, packet);
-            uint64_t error = payload_allowed(type, payload_length) ? 0 : 8;
+            uint64_t error = payload_allowed((uint64_t)type, payload_length) ? 0 : 8;
             size_t first = type == 5 ? 0 : length;
             for (size_t there = first; there <= length; there++)
                 check_cut(packet, length, there, error, message);

@@ -28,6 +28,7 @@ static void check_step(const uint8_t *bytes, size_t length, uint64_t offset, siz
     check(found.consumed == owed->answer.consumed, owed->name, "consumed");
     check(found.rows == owed->answer.rows, owed->name, "rows");
     check(found.offset == owed->answer.offset, owed->name, "offset");
+    check(found.stored == owed->store_length, owed->name, "stored");
     check(holds(rows, rows_room, owed->rows, ROW_BYTES * owed->answer.rows), owed->name,
           "rows buffer");
     check(holds(store, store_room, owed->store, owed->store_length), owed->name, "store buffer");
@@ -35,12 +36,12 @@ static void check_step(const uint8_t *bytes, size_t length, uint64_t offset, siz
     free(rows);
 }
 
-static const struct step too_small = {"too small a buffer", {20, 0, 0, 0}, NULL, NULL, 0};
-static const struct step at_end = {"the stream's end", {0, 0, 0, 0}, NULL, NULL, 0};
+static const struct step too_small = {"too small a buffer", {.error = 20}, NULL, NULL, 0};
+static const struct step at_end = {"the stream's end", {.error = 0}, NULL, NULL, 0};
 
 static struct step past_end(uint64_t offset)
 {
-    struct step owed = {"past the stream's end", {21, 0, 0, offset}, NULL, NULL, 0};
+    struct step owed = {"past the stream's end", {.error = 21, .offset = offset}, NULL, NULL, 0};
     return owed;
 }
 
@@ -51,7 +52,8 @@ static void check_case_at(const uint8_t *bytes, size_t length, uint64_t front,
     uint8_t *rows = list_rows(given);
     uint64_t offset = given->error == 0 ? 0 : front + given->offset;
     struct step owed = {given->name,
-                        {given->error, given->consumed, given->row_count, offset},
+                        {given->error, given->consumed, given->row_count, offset,
+                         given->store_length},
                         rows,
                         (const uint8_t *)given->store,
                         given->store_length};
@@ -89,8 +91,8 @@ static void check_examples(void)
     const struct list_case *primes = &list_cases[0];
     const struct list_case *two_lists = &list_cases[1];
     static const uint64_t past[] = {113, 114, 4096, UINT64_C(1) << 32, UINT64_MAX};
-    struct step inside = {"inside the primes", {22, 0, 0, 8}, NULL, NULL, 0};
-    struct step zeros = {"two zeros behind", {21, 0, 0, 112}, NULL, NULL, 0};
+    struct step inside = {"inside the primes", {.error = 22, .offset = 8}, NULL, NULL, 0};
+    struct step zeros = {"two zeros behind", {.error = 21, .offset = 112}, NULL, NULL, 0};
     size_t front;
     size_t length;
     uint8_t *first = list_bytes(primes, &front);
@@ -132,21 +134,20 @@ static void check_empty(void)
 /* The limit counts from each list's own front: 1,022 ints behind an empty list. */
 static void check_limit(void)
 {
+    static const uint32_t empty_list[2] = {256, 0};
     size_t length = 8 + 4100;
     uint8_t *bytes = new_buffer(length);
-    uint32_t header[4] = {256, 0, 257, 1023};
-    struct step owed = {"1,023 ints behind a list", {28, 0, 0, 8 + 4096}, NULL, NULL, 0};
-    put_words(bytes, header, 4);
-    check_step(bytes, length, 8, ROWS_ROOM, STORE_ROOM, &owed);
-    header[3] = 1022;
-    put_words(bytes, header, 4);
-    uint8_t *rows = new_buffer(ROWS_ROOM);
-    uint8_t *store = new_buffer(STORE_ROOM);
-    cinder_list_result found =
-        cinder_stream_next(bytes, length, 8, rows, ROWS_ROOM, store, STORE_ROOM);
-    check(found.error == 0 && found.consumed == 4096 && found.rows == 1023 && found.offset == 0,
-          "1,022 ints behind a list", "answer");
-    free(store);
+    uint8_t *rows = int_rows(1023);
+    struct step beyond = {
+        "1,023 ints behind a list", {.error = 28, .offset = 8 + 4096}, NULL, NULL, 0};
+    struct step full = {
+        "1,022 ints behind a list", {.consumed = 4096, .rows = 1023}, rows, NULL, 0};
+    put_words(bytes, empty_list, 2);
+    put_ints(bytes + 8, length - 8, 1023);
+    check_step(bytes, length, 8, ROWS_ROOM, STORE_ROOM, &beyond);
+    put_ints(bytes + 8, length - 8, 1022);
+    check_step(bytes, length, 8, ROWS_ROOM, STORE_ROOM, &full);
+    check_step(bytes, length, 8, ROWS_ROOM + 12, STORE_ROOM + 1, &full);
     free(rows);
     free(bytes);
 }
@@ -154,15 +155,11 @@ static void check_limit(void)
 /* "A pointer with length 0 may be null." */
 static void check_null(void)
 {
-    uint8_t *rows = new_buffer(CINDER_ROWS_ROOM);
-    uint8_t *store = new_buffer(CINDER_STORE_ROOM);
-    cinder_list_result answer = cinder_stream_next(NULL, 0, 0, rows, CINDER_ROWS_ROOM, store, CINDER_STORE_ROOM);
-    check(answer.error == 0 && answer.consumed == 0 && answer.rows == 0 && answer.offset == 0, "null bytes", "answer");
-    check(holds(rows, CINDER_ROWS_ROOM, NULL, 0) && holds(store, CINDER_STORE_ROOM, NULL, 0), "null bytes", "areas");
-    answer = cinder_stream_next(NULL, 0, 0, NULL, 0, NULL, 0);
-    check(answer.error == 20 && answer.consumed == 0 && answer.rows == 0 && answer.offset == 0, "null areas", "answer");
-    free(store);
-    free(rows);
+    check_step(NULL, 0, 0, ROWS_ROOM, STORE_ROOM, &at_end);
+    cinder_list_result answer = cinder_stream_next(NULL, 0, 0, NULL, 0, NULL, 0);
+    check(answer.error == 20 && answer.consumed == 0 && answer.rows == 0 && answer.offset == 0 &&
+              answer.stored == 0,
+          "null buffers", "answer");
 }
 
 int main(void)

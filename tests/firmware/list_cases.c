@@ -91,3 +91,24 @@ uint8_t *list_rows(const struct list_case *given)
         put_words(rows + ROW_BYTES * row, given->rows[row], 3);
     return rows;
 }
+
+void put_ints(uint8_t *bytes, size_t length, uint32_t count)
+{
+    uint32_t header[2] = {257, count};
+    put_words(bytes, header, 2);
+    for (uint32_t at = 2; at < length / 4; at++) {
+        uint32_t value = at - 2;
+        put_words(bytes + 4 * (size_t)at, &value, 1);
+    }
+}
+
+uint8_t *int_rows(size_t row_count)
+{
+    uint8_t *rows = new_buffer(ROW_BYTES * row_count);
+    for (uint32_t row = 0; row < row_count; row++) {
+        uint32_t list_row[3] = {256, (uint32_t)row_count - 1, 0};
+        uint32_t int_row[3] = {1, row - 1, 0};
+        put_words(rows + ROW_BYTES * (size_t)row, row == 0 ? list_row : int_row, 3);
+    }
+    return rows;
+}

@@ -34,6 +34,12 @@ uint8_t *list_bytes(const struct list_case *given, size_t *length);
 /* The rows of a case, 12 bytes each, low byte first. Freed by the caller. */
 uint8_t *list_rows(const struct list_case *given);
 
+/* Puts as much of a typed list of ints 0, 1, 2 .. with this count as `length` bytes hold. */
+void put_ints(uint8_t *bytes, size_t length, uint32_t count);
+
+/* So many rows of that list: its own and those of its ints. Freed by the caller. */
+uint8_t *int_rows(size_t row_count);
+
 /* Writes numbers low byte first. */
 void put_words(uint8_t *bytes, const uint32_t *words, size_t count);
 

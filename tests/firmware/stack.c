@@ -6,6 +6,7 @@
 #include "checks.h"
 #include "cinder.h"
 #include "list_cases.h"
+#include "packets.h"
 
 #include <stdbool.h>
 #include <stdio.h>
@@ -17,10 +18,23 @@ enum { STACK_WORDS = 2048, BYTES_ROOM = 2 * LIST_LIMIT };
 
 #define PATTERN UINT64_C(0xa7b6c5d4e3f20918)
 
-enum call { PACKET, LIST, STREAM, CALLS };
+enum call {
+    PACKET_DECODE,
+    LIST_DECODE,
+    STREAM_NEXT,
+    HUB_RECEIVE,
+    HUB_DETACH,
+    HUB_PUBLISH,
+    HUB_READ,
+    PACKET_ENCODE,
+    LIST_ENCODE,
+    CALLS
+};
 
 static const char *const call_names[CALLS] = {
-    "cinder_packet_decode", "cinder_list_decode", "cinder_stream_next"};
+    "cinder_packet_decode", "cinder_list_decode", "cinder_stream_next",
+    "cinder_hub_receive",   "cinder_hub_detach",  "cinder_hub_publish",
+    "cinder_hub_read",      "cinder_packet_encode", "cinder_list_encode"};
 
 struct deepest {
     size_t bytes;
@@ -34,12 +48,20 @@ static struct deepest deepest[CALLS];
 /* The call to make; a context's function takes no pointers. */
 static struct {
     enum call call;
+    /* What is read: bytes, a payload or rows. */
     const uint8_t *bytes;
     size_t length;
-    uint64_t offset;
+    /* The offset, the type, or the socket. */
+    uint64_t number;
+    uint64_t index;
+    const uint8_t *catalogue;
+    size_t catalogue_length;
+    uint8_t *table;
+    const uint8_t *stored;
+    size_t stored_length;
     size_t first_room;
     size_t store_room;
-    uint64_t error;
+    cinder_list_result answer;
     const uint8_t *stack_pointer;
 } given;
 
@@ -51,21 +73,51 @@ static ucontext_t caller, callee;
 /* Runs on the painted stack. */
 static void make_call(void)
 {
+    const uint8_t *catalogue = given.catalogue;
+    size_t catalogue_length = given.catalogue_length;
     __asm__ volatile("mov %%rsp, %0" : "=m"(given.stack_pointer));
     switch (given.call) {
-    case PACKET:
-        given.error =
+    case PACKET_DECODE:
+        given.answer.error =
             cinder_packet_decode(given.bytes, given.length, first, given.first_room).error;
         break;
-    case LIST:
-        given.error = cinder_list_decode(given.bytes, given.length, first, given.first_room,
-                                         store, given.store_room)
-                          .error;
+    case LIST_DECODE:
+        given.answer = cinder_list_decode(given.bytes, given.length, first, given.first_room,
+                                          store, given.store_room);
+        break;
+    case STREAM_NEXT:
+        given.answer = cinder_stream_next(given.bytes, given.length, given.number, first,
+                                          given.first_room, store, given.store_room);
+        break;
+    case HUB_RECEIVE:
+        given.answer.error =
+            cinder_hub_receive(catalogue, catalogue_length, given.table, CINDER_TABLE_ROOM,
+                               given.number, given.bytes, given.length)
+                .error;
+        break;
+    case HUB_DETACH:
+        given.answer.error = cinder_hub_detach(catalogue, catalogue_length, given.table,
+                                               CINDER_TABLE_ROOM, given.number);
+        break;
+    case HUB_PUBLISH:
+        given.answer.error = cinder_hub_publish(catalogue, catalogue_length, given.table,
+                                                CINDER_TABLE_ROOM, first, given.first_room)
+                                 .error;
+        break;
+    case HUB_READ:
+        given.answer.error = cinder_hub_read(catalogue, catalogue_length, given.table,
+                                             CINDER_TABLE_ROOM, given.number, given.index)
+                                 .error;
+        break;
+    case PACKET_ENCODE:
+        given.answer.error = cinder_packet_encode(given.number, given.bytes, given.length, first,
+                                                  given.first_room)
+                                 .error;
         break;
     default:
-        given.error = cinder_stream_next(given.bytes, given.length, given.offset, first,
-                                         given.first_room, store, given.store_room)
-                          .error;
+        given.answer.error = cinder_list_encode(given.bytes, given.length, given.stored,
+                                                given.stored_length, first, given.first_room)
+                                 .error;
     }
 }
 
@@ -93,30 +145,66 @@ static void measure(const char *input)
     most->calls++;
     if (taken > most->bytes) {
         most->bytes = taken;
-        most->error = given.error;
+        most->error = given.answer.error;
         most->input = input;
     }
 }
 
 static void packet(const uint8_t *bytes, size_t length, size_t room, const char *input)
 {
-    given.call = PACKET;
+    given.call = PACKET_DECODE;
     given.bytes = bytes;
     given.length = length;
     given.first_room = room;
     measure(input);
 }
 
+static void encode(const uint8_t *rows, size_t length, const uint8_t *stored,
+                   size_t stored_length, size_t room, const char *input)
+{
+    given.call = LIST_ENCODE;
+    given.bytes = rows;
+    given.length = length;
+    given.stored = stored;
+    given.stored_length = stored_length;
+    given.first_room = room;
+    measure(input);
+}
+
+/* The rows that were read, written again: whole, short of a row, and with a number of each
+ * of a few rows replaced. */
+static void written_back(const char *input)
+{
+    static const uint32_t others[] = {0, 1, 4, 12, 256, 0xffffffff};
+    static uint8_t rows[ROWS_ROOM];
+    static uint8_t stored[STORE_ROOM];
+    size_t length = ROW_BYTES * given.answer.rows;
+    size_t stored_length = given.answer.stored;
+    memcpy(rows, first, length);
+    memcpy(stored, store, stored_length);
+    encode(rows, length, stored, stored_length, LIST_LIMIT, input);
+    encode(rows, length - ROW_BYTES, stored, stored_length, LIST_LIMIT, input);
+    for (size_t at = 0; at < length; at += length < 100 ? 4 : 460) {
+        uint8_t old[4];
+        memcpy(old, rows + at, 4);
+        for (size_t other = 0; other < sizeof others / sizeof others[0]; other++) {
+            put_words(rows + at, &others[other], 1);
+            encode(rows, length, stored, stored_length, LIST_LIMIT, input);
+        }
+        memcpy(rows + at, old, 4);
+    }
+}
+
 static void list(const uint8_t *bytes, size_t length, const char *input)
 {
     given.bytes = bytes;
     given.length = length;
-    given.offset = 0;
+    given.number = 0;
     given.first_room = ROWS_ROOM;
     given.store_room = STORE_ROOM;
-    given.call = LIST;
+    given.call = STREAM_NEXT;
     measure(input);
-    given.call = STREAM;
+    given.call = LIST_DECODE;
     measure(input);
 }
 
@@ -127,14 +215,16 @@ static void behind_another(const uint8_t *bytes, size_t length, const char *inpu
     static const uint32_t empty_list[2] = {256, 0};
     put_words(both, empty_list, 2);
     memcpy(both + 8, bytes, length);
-    given.call = STREAM;
+    given.call = STREAM_NEXT;
     given.bytes = both;
     given.length = length + 8;
-    for (given.offset = 0; given.offset <= 8; given.offset += 8)
+    given.first_room = ROWS_ROOM;
+    given.store_room = STORE_ROOM;
+    for (given.number = 0; given.number <= 8; given.number += 8)
         measure(input);
-    given.offset = given.length;
+    given.number = given.length;
     measure("the end of the stream");
-    given.offset = UINT64_MAX;
+    given.number = UINT64_MAX;
     measure("past the end of the stream");
 }
 
@@ -144,10 +234,11 @@ static void too_small(void)
     packet(ping, sizeof ping, CINDER_PACKET_ROOM - 1, "buffer too small");
     given.first_room = CINDER_ROWS_ROOM - 1;
     given.store_room = CINDER_STORE_ROOM;
-    given.call = LIST;
+    given.call = LIST_DECODE;
     measure("buffer too small");
-    given.call = STREAM;
+    given.call = STREAM_NEXT;
     measure("buffer too small");
+    encode(NULL, 0, NULL, 0, LIST_LIMIT - 1, "buffer too small");
 }
 
 /* The list whole, cut at every byte, and with every number replaced by others. */
@@ -157,6 +248,8 @@ static void list_and_damaged(const uint8_t *bytes, size_t length, const char *in
                                       257, 260, 4096, 266, 0x7fffffff, 0x80000000, 0xffffffff};
     static uint8_t changed[BYTES_ROOM];
     list(bytes, length, input);
+    if (given.answer.error == 0)
+        written_back(input);
     behind_another(bytes, length, input);
     size_t step = length < 300 ? 1 : 61;
     for (size_t there = 0; there < length; there += step)
@@ -250,41 +343,27 @@ static void all_lists(void)
                     }
 }
 
-/* A packet with this payload; answers its size. */
-static size_t put_packet(uint8_t *bytes, uint8_t type, const uint8_t *payload, size_t length)
+/* Rows of lists in each other, more of them than may be. */
+static void deep_rows(void)
 {
-    uint8_t message[254] = {type, (uint8_t)length};
-    uint8_t sum = (uint8_t)(type ^ length);
-    for (size_t at = 0; at < length; at++) {
-        message[2 + at] = payload[at];
-        sum ^= payload[at];
+    static uint8_t rows[ROWS_ROOM];
+    for (size_t depth = 1; depth <= ROWS_ROOM / ROW_BYTES; depth += depth < 12 ? 1 : 101) {
+        for (size_t row = 0; row < depth; row++)
+            put_words(rows + ROW_BYTES * row, (uint32_t[]){256, row + 1 < depth, 0}, 3);
+        encode(rows, ROW_BYTES * depth, NULL, 0, LIST_LIMIT, "rows of nested lists");
     }
-    message[2 + length] = sum;
-    uint8_t *encoded = bytes + 2;
-    size_t code_at = 0;
-    for (size_t at = 0; at < length + 3; at++) {
-        encoded[at + 1] = message[at];
-        if (message[at] == 0) {
-            encoded[code_at] = (uint8_t)(at + 1 - code_at);
-            code_at = at + 1;
-        }
-    }
-    encoded[code_at] = (uint8_t)(length + 4 - code_at);
-    bytes[0] = 0;
-    bytes[1] = (uint8_t)(length + 4);
-    return length + 6;
 }
 
 /* Every type and payload length, whole, cut at every byte, and with each byte changed. */
 static void all_packets(void)
 {
-    uint8_t payload[251];
+    uint8_t payload[PAYLOAD_LIMIT];
     uint8_t bytes[CINDER_PACKET_ROOM + 1];
     for (uint8_t type = 0; type <= 6; type++)
         for (size_t length = 0; length <= sizeof payload; length += type == 5 ? 1 : 5) {
             for (size_t at = 0; at < length; at++)
                 payload[at] = type % 2 == 0 ? 0 : (uint8_t)(at % 5);
-            size_t size = put_packet(bytes, type, payload, length);
+            size_t size = packet_with(type, payload, length, bytes);
             for (size_t there = 0; there <= size; there++)
                 packet(bytes, there, CINDER_PACKET_ROOM, "packet");
             for (size_t at = 0; at < size; at++) {
@@ -295,7 +374,135 @@ static void all_packets(void)
                 packet(bytes, size, CINDER_PACKET_ROOM, "packet with a byte 0");
                 bytes[at] = old;
             }
+            given.call = PACKET_ENCODE;
+            given.bytes = payload;
+            given.length = length;
+            given.number = type;
+            measure("type and payload");
+            given.number = type + UINT64_C(256);
+            measure("type above a byte");
+            given.number = type;
+            given.first_room = CINDER_PACKET_ROOM - 1;
+            measure("buffer too small");
         }
+}
+
+enum { TABLES = 4, TYPES = 32, PARAMETERS = 32 };
+
+/* So many types, each with 32 readable parameters of the kinds in turn. */
+static size_t put_catalogue(uint8_t *catalogue, unsigned types)
+{
+    size_t at = 1;
+    catalogue[0] = (uint8_t)types;
+    for (unsigned type = 0; type < types; type++, at += 2) {
+        catalogue[at] = (uint8_t)(type + 1);
+        catalogue[at + 1] = PARAMETERS;
+    }
+    catalogue[at++] = (uint8_t)(types * PARAMETERS);
+    catalogue[at++] = (uint8_t)(types * PARAMETERS >> 8);
+    for (unsigned index = 0; index < types * PARAMETERS; index++)
+        catalogue[at++] = (uint8_t)(4 + index % PARAMETERS % 3);
+    return at;
+}
+
+/* The hub's calls from each socket, with this packet, on copies of the table. */
+static void hub_calls(const uint8_t *table, const uint8_t *bytes, size_t length,
+                      const char *input)
+{
+    static uint8_t changed[CINDER_TABLE_ROOM];
+    given.table = changed;
+    given.bytes = bytes;
+    given.length = length;
+    given.first_room = CINDER_LIST_ROOM;
+    for (given.number = 0; given.number <= 8; given.number++) {
+        for (given.index = 0; given.index <= PARAMETERS; given.index += 8) {
+            memcpy(changed, table, sizeof changed);
+            given.call = HUB_READ;
+            measure(input);
+        }
+        given.call = HUB_RECEIVE;
+        measure(input);
+        given.call = HUB_PUBLISH;
+        measure(input);
+        given.call = HUB_DETACH;
+        measure(input);
+    }
+    given.call = HUB_PUBLISH;
+    given.first_room = CINDER_LIST_ROOM - 1;
+    measure("list area too small");
+}
+
+/* A data packet for all 32 parameters, and the table that four devices make of it. */
+static size_t put_data(uint8_t *bytes)
+{
+    uint8_t payload[132] = {0xff, 0xff, 0xff, 0xff};
+    size_t at = 4;
+    for (unsigned index = 0; index < PARAMETERS; index++)
+        if (index % 3 == 2)
+            payload[at++] = 1;
+        else {
+            put_words(payload + at, (uint32_t[]){0x7f800001 + index}, 1);
+            at += 4;
+        }
+    return packet_with(DEVICE_DATA, payload, at, bytes);
+}
+
+static void fill(uint8_t *table, unsigned devices)
+{
+    uint8_t bytes[CINDER_PACKET_ROOM];
+    given.call = HUB_RECEIVE;
+    given.table = table;
+    given.bytes = bytes;
+    for (unsigned at = 0; at < devices; at++) {
+        uint8_t payload[10] = {(uint8_t)(at + 1), 6, (uint8_t)at};
+        given.number = 2 * at;
+        given.length = packet_with(ACK, payload, sizeof payload, bytes);
+        measure("an ACK");
+        check(given.answer.error == 0, "hub", "an ACK");
+        given.length = put_data(bytes);
+        measure("32 values");
+        check(given.answer.error == 0, "hub", "32 values");
+    }
+}
+
+/* Empty, half full, full and unlawful tables; packets of every type, those for the hub also
+ * cut at every byte and with each byte changed; few types and many, and no catalogue. */
+static void all_hub_calls(void)
+{
+    static uint8_t catalogue[3 + TYPES * (2 + PARAMETERS)];
+    static uint8_t tables[TABLES][CINDER_TABLE_ROOM];
+    uint8_t bytes[CINDER_PACKET_ROOM];
+    given.catalogue = catalogue;
+    for (unsigned types = 4; types <= TYPES; types += TYPES - 4) {
+        given.catalogue_length = put_catalogue(catalogue, types);
+        memset(tables, 0, sizeof tables);
+        fill(tables[1], 2);
+        fill(tables[2], 4);
+        fill(tables[3], 4);
+        tables[3][CINDER_TABLE_ROOM - 1] = 0xff;
+        for (int table = 0; table < TABLES; table++) {
+            for (uint8_t type = 0; type <= 6; type++)
+                for (size_t length = 0; length <= 140; length += 10) {
+                    uint8_t payload[140];
+                    put_payload(payload, length);
+                    size_t size = packet_with(type, payload, length, bytes);
+                    hub_calls(tables[table], bytes, size, "packet");
+                }
+            for (int ack = 0; ack < 2; ack++) {
+                uint8_t payload[10] = {(uint8_t)types, 6, 99};
+                size_t size =
+                    ack ? packet_with(ACK, payload, sizeof payload, bytes) : put_data(bytes);
+                for (size_t at = 0; at <= size; at++) {
+                    hub_calls(tables[table], bytes, at, ack ? "an ACK" : "32 values");
+                    bytes[at == size ? 0 : at] ^= 1;
+                    hub_calls(tables[table], bytes, size, "packet with a byte changed");
+                    bytes[at == size ? 0 : at] ^= 1;
+                }
+            }
+        }
+    }
+    given.catalogue_length--;
+    hub_calls(tables[2], bytes, 0, "catalogue cut short");
 }
 
 int main(void)
@@ -303,9 +510,13 @@ int main(void)
     too_small();
     all_packets();
     all_lists();
+    deep_rows();
+    all_hub_calls();
     printf("%-22s %8s %9s  %s\n", "call", "measured", "calls", "deepest with");
-    for (int call = 0; call < CALLS; call++)
+    for (int call = 0; call < CALLS; call++) {
+        check(deepest[call].calls > 0, call_names[call], "measured");
         printf("%-22s %8zu %9lu  %s, error %u\n", call_names[call], deepest[call].bytes,
                deepest[call].calls, deepest[call].input, (unsigned)deepest[call].error);
-    return 0;
+    }
+    return finish();
 }

@@ -2,8 +2,9 @@
 # The most stack that each C call of an archive can take, from its machine code: the
 # return address, what each function pushes and reserves, and what it uses below its
 # stack pointer, along the deepest chain of calls. A function that calls itself counts
-# nine times: eight lists in each other, and the call that refuses a ninth. Arguments on
-# the stack are 16 bytes for lists. For x86-64.
+# nine times: eight lists in each other, and the call that refuses a ninth. A call with more
+# numbers than registers, the place of a large answer counted, has 16 bytes of arguments on
+# the stack. For x86-64.
 #
 # usage: stack_bound.sh ARCHIVE
 set -eu
@@ -76,11 +77,19 @@ END {
         if (frame[name] > 0)
             printf "%-28s %8d%s\n", name, frame[name] + below_pointer[name], (name in itself) ? " nine times" : ""
     printf "%-28s %8s\n", "call", "at most"
-    for (at = split("packet_decode list_decode stream_next", public, " "); at > 0; at--) {
+    split("list_decode stream_next hub_receive hub_read", with_arguments, " ")
+    for (at in with_arguments) arguments["cinder_" with_arguments[at]] = 16
+    count = split("packet_decode list_decode stream_next hub_receive hub_detach hub_publish hub_read " \
+                  "packet_encode list_encode", public, " ")
+    for (at = 1; at <= count; at++) {
         name = "cinder_" public[at]
         if (name in frame)
-            printf "%-28s %8d\n", name, bound(name) + (public[at] == "packet_decode" ? 0 : 16)
+            printf "%-28s %8d\n", name, bound(name) + arguments[name]
+        else
+            missing[name] = 1
     }
     for (name in outside) printf "and what %s takes below its return address\n", name
     for (name in indirect) printf "%s calls what is not known here\n", name
+    for (name in missing) printf "%s is not in the archive\n", name
+    for (name in missing) exit 1
 }'

@@ -1,25 +1,23 @@
--- ACK and leaving (01, "The table"), with the refusals of "Refusal numbers".
+-- ACK and leaving (01, "The table"), with the refusals of "Refusal numbers": each is said of the socket's row, and the table follows.
 use Prim.Native.Nat.{ℕ}
 use mathlib.Core.Bool.{Bool, true, _&&_, not, cond}
 use mathlib.Core.List.{List}
+use mathlib.Core.Option.{Option, none, some}
 use lib.Dec.{eqb}
-use lib.ListN.{length, getD}
+use lib.ListN.{getD}
 use Rattle.wire.specs.Every.{every}
 use Rattle.wire.specs.Number.{numberAt}
 use Rattle.catalogue.specs.Lookup.{deviceOf}
-use Rattle.table.specs.Slots.{slotCount, freshSlot, emptySlot, slotAt, withSlot, slotOf, freeOf, refused, accepted, Effect, effectOf}
-use Rattle.table.specs.Lawful.{admitted, ifAdmitted}
-use Rattle.table.specs.declared.Slot.{Slot}
-use Rattle.table.specs.declared.Table.{Table}
+use Rattle.slot.specs.Slot.{freshSlot, emptySlot}
+use Rattle.slot.specs.Row.{uidSize}
+use Rattle.slot.specs.Rows.{slotAt}
+use Rattle.slot.specs.declared.Slot.{Slot}
+use Rattle.table.specs.Places.{placeOf, freeOf, isSlot, rowOf}
+use Rattle.table.specs.Change.{Effect, Change, becomes, denied, changedAt}
 use Rattle.table.specs.declared.Place.{Place}
 use Rattle.table.specs.declared.Place.the-variants.{At, Nowhere}
-use Rattle.table.specs.declared.Update.{Update}
 
--- ACK's payload, "10: device type, year, 8 bytes of UID"
-abbrev pub ackBytes : ℕ
-ackBytes = 10
-
--- the first byte
+-- ACK's payload, "10: device type, year, 8 bytes of UID": the first byte
 abbrev pub deviceIn : List ℕ → ℕ
 deviceIn payload = getD payload 0 0
 
@@ -29,62 +27,56 @@ yearIn payload = getD payload 1 0
 
 -- the eight bytes behind it, as one number, low byte first
 abbrev pub uidIn : List ℕ → ℕ
-uidIn payload = numberAt 8 payload 2
+uidIn payload = numberAt uidSize payload 2
+
+-- the row that an ACK makes, "with no values held"
+abbrev pub ackRow : ℕ → List ℕ → Slot
+ackRow socket payload = freshSlot true socket (deviceIn payload) (yearIn payload) (uidIn payload)
+
+-- "from a socket already seated it replaces the row", else "the lowest empty seat" is wanted
+abbrev pub hasSlot : Option Slot → Bool → Bool
+hasSlot (some own) anyFree = true
+hasSlot none anyFree = anyFree
+
+-- "for ACK then 12, 14, 13", by the socket's own row, if it has one, and two facts about the others: the UID is at no other
+-- socket, and a slot is free
+unfoldable pub acked : List ℕ → ℕ → Option Slot → List ℕ → Bool → Bool → Change
+acked c socket own payload isUidFree anyFree =
+    cond (deviceOf c (deviceIn payload) .known)
+    (cond isUidFree (cond (hasSlot own anyFree) (becomes (ackRow socket payload)) (denied 13)) (denied 14))
+    (denied 12)
 
 -- 14, "UID seated at another socket": a taken slot of another socket has it
 unfoldable pub uidElsewhere : ℕ → ℕ → Slot → Bool
 uidElsewhere socket uid s = s .taken && (not (eqb (s .socket) socket) && eqb (s .uid) uid)
 
 -- no other socket's device has the UID
-unfoldable pub uidFree : Table → ℕ → ℕ → Bool
-uidFree t socket uid = every slotCount (λ i. not (uidElsewhere socket uid (slotAt t i)))
+unfoldable pub uidFree : ℕ → List ℕ → ℕ → ℕ → Bool
+uidFree slots t socket uid = every slots (λ i. not (uidElsewhere socket uid (slotAt t i)))
 
 -- "ACK seats the guest in the lowest empty seat; from a socket already seated it replaces the row"
-abbrev pub orFree : Table → Place → Place
-orFree t (At i) = At i
-orFree t Nowhere = freeOf t
+abbrev pub orFree : ℕ → List ℕ → Place → Place
+orFree slots t (At i) = At i
+orFree slots t Nowhere = freeOf slots t
 
 -- the slot that an ACK is for
-abbrev pub placeFor : Table → ℕ → Place
-placeFor t socket = orFree t (slotOf t socket)
+abbrev pub placeFor : ℕ → List ℕ → ℕ → Place
+placeFor slots t socket = orFree slots t (placeOf slots t socket)
 
--- 13, "socket unseated, all four seats taken"
-abbrev pub placed : Table → Slot → Place → Update
-placed t s (At i) = accepted (withSlot t i s)
-placed t s Nowhere = refused t 13
+-- what an ACK asks for its socket's row in this table
+abbrev pub ackChange : ℕ → List ℕ → List ℕ → ℕ → List ℕ → Change
+ackChange slots c t socket payload =
+    acked c socket (rowOf slots t socket) payload (uidFree slots t socket (uidIn payload)) (isSlot (freeOf slots t))
 
--- the row that an ACK makes, "with no values held"
-abbrev pub rowOf : ℕ → List ℕ → Slot
-rowOf socket payload = freshSlot true socket (deviceIn payload) (yearIn payload) (uidIn payload)
-
--- "for ACK then 12, 14, 13"
-unfoldable pub assigned : List ℕ → Table → ℕ → List ℕ → Update
-assigned c t socket payload =
-    cond (deviceOf c (deviceIn payload) .known)
-    (cond (uidFree t socket (uidIn payload)) (placed t (rowOf socket payload) (placeFor t socket)) (refused t 14))
-    (refused t 12)
-
--- of the packet's refusals, 8 concerns the payload alone
-abbrev pub assignedBy : List ℕ → Table → ℕ → List ℕ → Update
-assignedBy c t socket payload = cond (eqb (length payload) ackBytes) (assigned c t socket payload) (refused t 8)
-
--- the same by the paper's numbers
-abbrev pub assigning : List ℕ → Table → ℕ → List ℕ → Effect
-assigning c t socket payload = effectOf (assignedBy c t socket payload)
-
--- "Handing in: 11, 9, 10, packet, 19; for ACK then .."
-unfoldable pub acknowledged : List ℕ → Table → ℕ → List ℕ → Update
-acknowledged c t socket payload = ifAdmitted (admitted c t socket) t (assignedBy c t socket payload)
+-- the table after an ACK
+abbrev pub assigned : ℕ → List ℕ → List ℕ → ℕ → List ℕ → Effect
+assigned slots c t socket payload = changedAt t (placeFor slots t socket) (ackChange slots c t socket payload)
 
 -- "Leaving empties the row"; 15, "socket has no guest"
-abbrev pub emptied : Table → Place → Update
-emptied t (At i) = accepted (withSlot t i emptySlot)
-emptied t Nowhere = refused t 15
+abbrev pub leaving : Option Slot → Change
+leaving (some own) = becomes emptySlot
+leaving none = denied 15
 
--- "Leaving: 11, 9, 10, 15"
-unfoldable pub detached : List ℕ → Table → ℕ → Update
-detached c t socket = ifAdmitted (admitted c t socket) t (emptied t (slotOf t socket))
-
--- the same by the paper's numbers
-abbrev pub detaching : List ℕ → Table → ℕ → Effect
-detaching c t socket = effectOf (detached c t socket)
+-- the table after a device has left
+abbrev pub left : ℕ → List ℕ → ℕ → Effect
+left slots t socket = changedAt t (placeOf slots t socket) (leaving (rowOf slots t socket))

@@ -2,10 +2,10 @@
 use super::lists;
 use super::packets;
 use super::show;
+use hub::Published;
 use hub::Receipt;
-use hub::Table;
+use hub::TABLE_BYTES;
 use list::LIST_LIMIT;
-use publish::Published;
 
 const CATALOGUE_C: [u8; 8] = [1, 7, 3, 3, 0, 4, 9, 6];
 
@@ -40,29 +40,27 @@ fn describe() {
     show::text(b"\n");
 }
 
-// The table after a packet on socket 3.
-fn receive(name: &[u8], t: Table, bytes: &[u8]) -> Table {
+// A packet on socket 3.
+fn receive(name: &[u8], table: &mut [u8], bytes: &[u8]) {
     show::text(name);
-    let r = hub::receive(&CATALOGUE_C, t, 3, bytes);
-    let a = r.answer;
+    let a = hub::receive(&CATALOGUE_C, table, 3, bytes);
     match a {
         Receipt::Accepted(n) => show::number(b" on socket 3: accepted, bytes ", n),
         Receipt::Refused(n) => show::number(b" on socket 3: refused ", n as usize),
     }
     show::text(b"\n");
-    r.table
 }
 
 // The bytes of the published list, and its rows, with the UID in the store.
 fn published(bytes: &[u8]) {
     show::hex(b"Published: ", bytes);
     show::text(b"\n");
-    lists::case(b"Published, read", bytes, 8);
+    lists::case(b"Published, read", bytes);
 }
 
-fn publish(t: Table) {
+fn publish(table: &[u8]) {
     let mut buffer = [0u8; LIST_LIMIT];
-    let p = publish::publish(&CATALOGUE_C, t, &mut buffer);
+    let p = hub::publish(&CATALOGUE_C, table, &mut buffer);
     match p {
         Published::Written(n) => {
             if n <= LIST_LIMIT {
@@ -75,8 +73,8 @@ fn publish(t: Table) {
 
 pub fn run() {
     describe();
-    let t = hub::empty_table();
-    let attached = receive(b"ACK", t, &packets::ACK);
-    let filled = receive(b"DEVICE_DATA", attached, &packets::DEVICE_DATA);
-    publish(filled);
+    let mut table = [0u8; TABLE_BYTES];
+    receive(b"ACK", &mut table, &packets::ACK);
+    receive(b"DEVICE_DATA", &mut table, &packets::DEVICE_DATA);
+    publish(&table);
 }

@@ -42,17 +42,17 @@ fn contents(rows: &[u8], store: &[u8]) {
     }
 }
 
-fn accepted(bytes: &[u8], rows: &[u8], store: &[u8], used: usize) {
-    if store.len() < used {
+fn accepted(bytes: &[u8], rows: &[u8], store: &[u8], stored: usize) {
+    if store.len() < stored {
         return;
     }
-    let in_use = &store[0..used];
+    let in_use = &store[0..stored];
     written_again(rows, in_use, bytes);
     contents(rows, in_use);
 }
 
-// The list at the front of the bytes, with `used` bytes in the store.
-pub fn case(name: &[u8], bytes: &[u8], used: usize) {
+// The list at the front of the bytes.
+pub fn case(name: &[u8], bytes: &[u8]) {
     let mut rows = [0u8; ROW_BYTES];
     let mut store = [0u8; STORE_ROOM];
     show::text(name);
@@ -61,12 +61,13 @@ pub fn case(name: &[u8], bytes: &[u8], used: usize) {
         Decoded::List {
             consumed,
             rows: count,
+            stored,
         } => {
             let n = count as usize;
             show::number(b": bytes ", consumed);
             show::number(b" rows ", n);
             if n <= ROW_BYTES / ROW {
-                accepted(bytes, &rows[0..ROW * n], &store, used);
+                accepted(bytes, &rows[0..ROW * n], &store, stored);
             }
         }
         Decoded::Refused(refusal) => {
@@ -98,7 +99,7 @@ fn numbers(name: &[u8], s: &[u32]) {
     }
     let mut buffer = [0u8; NUMBER * NUMBERS];
     put_numbers(&mut buffer, s);
-    case(name, &buffer[0..NUMBER * s.len()], 0);
+    case(name, &buffer[0..NUMBER * s.len()]);
 }
 
 // n NetInts.
@@ -132,7 +133,7 @@ fn two_lists() {
     put_string(&mut buffer, 45, b"is\0");
     put_string(&mut buffer, 52, b"a\0");
     put_string(&mut buffer, 58, b"good list\0");
-    case(b"Two lists", &buffer, 16);
+    case(b"Two lists", &buffer);
 }
 
 // Lists that each hold the next one, the innermost empty.
@@ -143,10 +144,10 @@ fn nested() {
     wire::copy_at(&mut buffer, 0, &four);
     wire::copy_at(&mut buffer, 32, &four);
     numbers::put_u32(&mut buffer, 60, 0);
-    case(b"Eight nested lists", &buffer[0..64], 0);
+    case(b"Eight nested lists", &buffer[0..64]);
     numbers::put_u32(&mut buffer, 60, 1);
     numbers::put_u32(&mut buffer, 64, 256);
-    case(b"Nine nested lists", &buffer, 0);
+    case(b"Nine nested lists", &buffer);
 }
 
 pub fn run() {

@@ -1,7 +1,12 @@
 pub mod Judgements
+pub mod PayloadBytes
 pub mod Keeps
+pub mod Later
 pub mod Packets
+pub mod Numbers
+pub mod Exactly
 pub mod Readings
+pub mod ByRow
 pub mod Posted
 pub mod Reached
 pub mod Bench

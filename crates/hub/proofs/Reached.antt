@@ -1,183 +1,145 @@
--- Every table that calls reach from the empty one is lawful, and its published list is legal and reads back.
-use Prim.Native.Nat.{ℕ, zero, suc, _-_, _≤_, _<_}
-use mathlib.Core.Path.{_≡_}
-use mathlib.Core.Bool.{Bool, true, false, cond}
+-- Every table that calls reach from the empty one is lawful, and its published list is legal and reads back. Reading, posting and
+-- calls that are refused change nothing.
+use Prim.Native.Nat.{ℕ, _≤_}
+use mathlib.Core.Path.{_≡_, refl, sym}
+use mathlib.Core.Bool.{Bool, true, false}
 use mathlib.Core.List.{List, [], _∷_}
-use mathlib.Core.Logic.{_⊎_, ⊎-elim}
-use native.Mathlib.Omega.{arith}
-use lib.Dec.{eqb}
-use lib.ListN.{length, getD, drop, replicate}
+use lib.ListN.{length}
 use borrow.Author.Tests.{le-ltb}
 use Rattle.wire.specs.Number.{Bytes}
 use Rattle.wire.specs.Area.{over}
-use Rattle.packet.specs.Cobs.{plain, decodedPart}
-use Rattle.packet.specs.Packet.{Reading, PACKET_ROOM, copyOf, lengthByte, partPresent, packetError, refusal, acceptance, decoded}
 use Rattle.list.specs.Limits.{listLimit}
 use Rattle.list.specs.Bytes.{listBytes}
 use Rattle.list.specs.Legal.{Legal}
 use Rattle.list.specs.Parse.{parse, good}
 use Rattle.catalogue.specs.Format.{legal}
-use Rattle.catalogue.proofs.Bytes.{zeros}
-use Rattle.table.specs.Slots.{slotCount, paramCount, Shaped, freshSlot, emptySlot, emptyTable, noSlot, slotAt, slotOf}
-use Rattle.table.specs.Lawful.{lawful}
-use Rattle.table.specs.declared.Table.{Table}
-use Rattle.wire.proofs.ByteLists.{drop-bytes, take-bytes, append-bytes, zero-bytes, byte-small}
-use Rattle.table.proofs.Places.{slot-found}
-use Rattle.table.proofs.Keeps.{empty-table-lawful, empty-table-shaped}
-use Rattle.table.proofs.Outcome.{outcome-either}
-use Rattle.attach.specs.Attach.{deviceIn, yearIn, uidIn, placeFor, rowOf, acknowledged, detached}
-use Rattle.attach.proofs.Laws.{ack-outcome, detach-outcome, detach-lawful, detach-shaped}
-use Rattle.parameters.specs.Data.{stored, applied}
-use Rattle.parameters.proofs.Values.{data-same-device}
-use Rattle.parameters.proofs.Ranges.{stored-small}
-use Rattle.parameters.proofs.Laws.{data-outcome}
+use Rattle.table.specs.Places.{slotCount, socketCount, tableSize, emptyTable}
+use Rattle.table.specs.Change.{Verdict}
+use Rattle.table.specs.Change as change
+use Rattle.table.proofs.Tests.{never}
+use Rattle.lawful.specs.Lawful.{lawful}
+use Rattle.lawful.proofs.Meaning.{lawful-means}
+use Rattle.lawful.proofs.Keeps.{empty-table-lawful, empty-table-bytes}
+use Rattle.parameters.specs.Read.{Finding}
+use Rattle.parameters.specs.Read as reading
 use Rattle.publish.specs.Published.{published}
-use Rattle.publish.specs.Outcome.{writing, publishOf}
-use Rattle.publish.proofs.Legal.{RangedSlot, published-legal, buffer-reads-back}
-use Rattle.hub.specs.Receive.{payloadIn, receivedOf}
-use Rattle.hub.proofs.Keeps.{by-payload, answering-table, received-shaped, received-lawful}
-
--- a call that may change the table
-pub data Event : Type 0 where
-  receive : (socket : ℕ) (bytes : List ℕ) → Event
-  detach : (socket : ℕ) → Event
-
--- the table after a call
-abbrev pub afterOne : List ℕ → Table → Event → Table
-afterOne c t (receive socket bytes) = receivedOf c t socket bytes .table
-afterOne c t (detach socket) = detached c t socket .table
-
--- the table after a series of calls, the latest in front
-abbrev pub afterAll : List ℕ → List Event → Table
-afterAll c [] = emptyTable
-afterAll c (e ∷ es) = afterOne c (afterAll c es) e
+use Rattle.publish.specs.Outcome.{Result, written, writing, writtenOf}
+use Rattle.publish.specs.Outcome as posting
+use Rattle.publish.proofs.Legal.{published-legal, buffer-reads-back}
+use Rattle.hub.specs.Receive.{Outcome, accepted, refused, receivedOf}
+use Rattle.hub.specs.Calls.{detached, publishOf}
+use Rattle.hub.specs.Events.{Event, receive, detach, read, publish, Reply, received, detaching, finding, publishing, replyTo, afterOne, afterAll}
+use Rattle.hub.proofs.Keeps.{refused-keeps, received-bytes, received-lawful, detached-keeps, detached-bytes, detached-lawful}
 
 -- what is received is bytes
 abbrev pub ByteEvent : Event → Type 0
 ByteEvent (receive socket bytes) = Bytes bytes
 ByteEvent (detach socket) = Unit {0}
+ByteEvent (read socket index) = Unit {0}
+ByteEvent (publish buffer) = Unit {0}
 
 abbrev pub ByteEvents : List Event → Type 0
 ByteEvents [] = Unit {0}
 ByteEvents (e ∷ es) = ByteEvent e × ByteEvents es
 
 -- what holds of every table on the way
-pub record Reached (c : List ℕ) (t : Table) : Type 0 where
-  pub is-lawful : lawful c t ≡ true
-  pub is-shaped : Shaped t
-  pub is-ranged : (i : ℕ) → i < slotCount → RangedSlot (slotAt t i)
+pub record Reached (c t : List ℕ) : Type 0 where
+  pub is-lawful : lawful slotCount socketCount c t ≡ true
+  pub is-bytes : Bytes t
+  pub is-long : length t ≡ tableSize slotCount
 
--- THE PAYLOAD OF A PACKET OF BYTES IS BYTES
-plain-bytes : (left : ℕ) (part : List ℕ) → Bytes part → Bytes (plain left part)
-unfolding plain
-plain-bytes left [] h = tt
-plain-bytes zero (code ∷ part) h = (omega arith, plain-bytes _ part (h .1))
-plain-bytes (suc left) (b ∷ part) h = (h .0, plain-bytes left part (h .1))
+reached-of : (c t : List ℕ) → lawful slotCount socketCount c t ≡ true → Bytes t → Reached c t
+reached-of c t h b = record { is-lawful = h; is-bytes = b; is-long = lawful-means slotCount socketCount c t h .whole }
 
-copy-bytes : (s : List ℕ) → Bytes s → Bytes (copyOf s)
-copy-bytes s h = append-bytes s (replicate (PACKET_ROOM - length s) 0) h (zero-bytes (PACKET_ROOM - length s))
-
-message-bytes : (s : List ℕ) → Bytes s → Bytes (decoded s .message)
-unfolding decoded refusal acceptance
-message-bytes s h = go (eqb (packetError s) 0)
-  where
-    go : (b : Bool) → Bytes (cond {A = Reading} b (acceptance s) (refusal (packetError s)) .message)
-    go true =
-        copy-bytes (decodedPart (partPresent s))
-        (drop-bytes 1 (plain 0 (partPresent s)) (plain-bytes 0 (partPresent s) (take-bytes (lengthByte s) (drop 2 s) (drop-bytes 2 s h))))
-    go false = copy-bytes [] tt
-
-payload-bytes : (s : List ℕ) → Bytes s → (n : ℕ) → Bytes (payloadIn (decoded s .message) n)
-payload-bytes s h n = take-bytes n (drop 2 (decoded s .message)) (drop-bytes 2 (decoded s .message) (message-bytes s h))
-
--- EACH ROW IS WHAT ITS TYPE SAYS
-fresh-ranged : (taken : Bool) (socket device year uid : ℕ) → device < 256 → RangedSlot (freshSlot taken socket device year uid)
-fresh-ranged taken socket device year uid l = record { device-byte = l; words = λ p. rw (zeros paramCount p) (omega arith) }
-
-stored-ranged :
-    (c : List ℕ) (t : Table) (payload : List ℕ) (i : ℕ) → Reached c t → Bytes payload → i < slotCount →
-    RangedSlot (stored c payload (slotAt t i))
-stored-ranged c t payload i r h l =
-    let k = r .is-ranged i l in
-    record {
-      device-byte = rw (data-same-device c payload (slotAt t i) .device-same) (k .device-byte);
-      words = stored-small c payload (slotAt t i) (r .is-shaped .slots-shaped i l) h (k .words);
-    }
-
-module _ (c : List ℕ) (t : Table) (r : Reached c t) (socket : ℕ) where
-  -- a slot that is as it was, or ranged, is ranged
-  either-ranged : (u : Table) (i : ℕ) → i < slotCount → (slotAt u i ≡ slotAt t i) ⊎ RangedSlot (slotAt u i) → RangedSlot (slotAt u i)
-  either-ranged u i l = ⊎-elim (λ (e : slotAt u i ≡ slotAt t i). rw e (r .is-ranged i l)) (λ (k : RangedSlot (slotAt u i)). k)
-
-  received-ranged : (s : List ℕ) → Bytes s → (i : ℕ) → i < slotCount → RangedSlot (slotAt (receivedOf c t socket s .table) i)
-  received-ranged s h =
-      by-payload c t socket Bytes
-      (λ x. (i : ℕ) → i < slotCount → RangedSlot (slotAt (x .table) i))
-      (λ k. r .is-ranged)
-      (λ k. r .is-ranged)
-      (λ payload g n i l.
-      rw (answering-table (acknowledged c t socket payload) n)
-      (either-ranged (acknowledged c t socket payload .table) i l
-      (outcome-either t (placeFor t socket) (λ j. rowOf socket payload) (acknowledged c t socket payload) (ack-outcome c t socket payload)
-      RangedSlot
-      (λ j e. fresh-ranged true socket (deviceIn payload) (yearIn payload) (uidIn payload) (byte-small payload 0 g))
-      i)))
-      (λ payload g n i l.
-      rw (answering-table (applied c t socket payload) n)
-      (either-ranged (applied c t socket payload .table) i l
-      (outcome-either t (slotOf t socket) (λ j. stored c payload (slotAt t j)) (applied c t socket payload) (data-outcome c t socket payload)
-      RangedSlot
-      (λ j e. stored-ranged c t payload j r g (slot-found t socket j e .1))
-      i)))
-      s
-      (payload-bytes s h)
-
-  detached-ranged : (i : ℕ) → i < slotCount → RangedSlot (slotAt (detached c t socket .table) i)
-  detached-ranged i l =
-      either-ranged (detached c t socket .table) i l
-      (outcome-either t (slotOf t socket) (λ j. emptySlot) (detached c t socket) (detach-outcome c t socket)
-      RangedSlot (λ j e. fresh-ranged false 0 0 0 0 (omega arith)) i)
-
-one-more : (c : List ℕ) (t : Table) (e : Event) → ByteEvent e → Reached c t → Reached c (afterOne c t e)
+-- LAW: a call of bytes keeps all of it
+pub one-more : (c t : List ℕ) (e : Event) → ByteEvent e → Reached c t → Reached c (afterOne c t e)
 one-more c t (receive socket bytes) h r =
-    record {
-      is-lawful = received-lawful c t socket bytes (r .is-shaped) (r .is-lawful);
-      is-shaped = received-shaped c t socket bytes (r .is-shaped);
-      is-ranged = received-ranged c t r socket bytes h;
-    }
+    reached-of c (receivedOf c t socket bytes .table) (received-lawful c t socket bytes (r .is-bytes) h (r .is-lawful))
+    (received-bytes c t socket bytes (r .is-bytes) h)
 one-more c t (detach socket) h r =
-    record {
-      is-lawful = detach-lawful c t socket (r .is-lawful);
-      is-shaped = detach-shaped c t socket (r .is-shaped);
-      is-ranged = detached-ranged c t r socket;
-    }
+    reached-of c (detached c t socket .table) (detached-lawful c t socket (r .is-lawful)) (detached-bytes c t socket (r .is-bytes))
+one-more c t (read socket index) h r = r
+one-more c t (publish buffer) h r = r
 
-empty-ranged : (n i : ℕ) → RangedSlot (getD (replicate n emptySlot) i noSlot)
-empty-ranged zero i = record { device-byte = omega arith; words = λ p. omega arith }
-empty-ranged (suc n) zero = fresh-ranged false 0 0 0 0 (omega arith)
-empty-ranged (suc n) (suc i) = empty-ranged n i
-
--- LAW: whatever calls were made since the table was empty, it is lawful and of its types' ranges
-pub reached : (c : List ℕ) (es : List Event) → ByteEvents es → Reached c (afterAll c es)
-reached c [] h =
-    record { is-lawful = empty-table-lawful c; is-shaped = empty-table-shaped; is-ranged = λ i l. empty-ranged slotCount i }
-reached c (e ∷ es) h = one-more c (afterAll c es) e (h .0) (reached c es (h .1))
+-- LAW: and so does a series of them
+pub all-more : (c t : List ℕ) (es : List Event) → ByteEvents es → Reached c t → Reached c (afterAll c t es)
+all-more c t [] h r = r
+all-more c t (e ∷ es) h r = all-more c (afterOne c t e) es (h .1) (one-more c t e (h .0) r)
 
 module _ (c : List ℕ) (es : List Event) (h : ByteEvents es) where
-  -- LAW: its published list is legal
-  pub reached-legal : Legal listLimit (published c (afterAll c es))
-  reached-legal = published-legal c (afterAll c es) (reached c es h .is-ranged)
+  -- the table that the calls lead to
+  abbrev table : List ℕ
+  table = afterAll c (emptyTable slotCount) es
 
-  -- LAW: publishing it under a legal catalogue into a buffer that is long enough writes that list
+  -- LAW: whatever calls were made since the table was empty, it is lawful, bytes and of its length
+  pub reached : Reached c (afterAll c (emptyTable slotCount) es)
+  reached =
+      all-more c (emptyTable slotCount) es h
+      (reached-of c (emptyTable slotCount) (empty-table-lawful slotCount socketCount c) (empty-table-bytes slotCount))
+
+  -- LAW: its published list is legal
+  pub reached-legal : Legal listLimit (published slotCount socketCount c (afterAll c (emptyTable slotCount) es))
+  reached-legal = published-legal c table (reached .is-bytes)
+
+  -- LAW: posting it under a legal catalogue into a buffer that is long enough writes that list
   pub reached-published :
       (buffer : List ℕ) → legal c ≡ true → listLimit ≤ length buffer →
-      publishOf c (afterAll c es) buffer ≡ writing (listBytes (published c (afterAll c es))) buffer
-  unfolding publishOf
-  reached-published buffer k l = rw (k, reached c es h .is-lawful, le-ltb (length buffer) listLimit l)
+      publishOf c (afterAll c (emptyTable slotCount) es) buffer ≡
+      writing (listBytes (published slotCount socketCount c (afterAll c (emptyTable slotCount) es))) buffer
+  unfolding publishOf writtenOf
+  reached-published buffer k l = rw (k, reached .is-lawful, le-ltb (length buffer) listLimit l)
 
   -- LAW: and the buffer reads back as that list
   pub reached-reads-back :
       (buffer : List ℕ) →
-      parse listLimit (over (listBytes (published c (afterAll c es))) buffer) ≡
-      good (published c (afterAll c es)) (length (listBytes (published c (afterAll c es))))
-  reached-reads-back buffer = buffer-reads-back c (afterAll c es) buffer (reached c es h .is-ranged)
+      parse listLimit (over (listBytes (published slotCount socketCount c (afterAll c (emptyTable slotCount) es))) buffer) ≡
+      good (published slotCount socketCount c (afterAll c (emptyTable slotCount) es))
+      (length (listBytes (published slotCount socketCount c (afterAll c (emptyTable slotCount) es))))
+  reached-reads-back buffer = buffer-reads-back c table buffer (reached .is-bytes)
+
+-- LAW: reading changes nothing
+pub read-keeps : (c t : List ℕ) (socket index : ℕ) → afterOne c t (read socket index) ≡ t
+read-keeps c t socket index = refl
+
+-- LAW: nor does posting
+pub publish-keeps : (c t buffer : List ℕ) → afterOne c t (publish buffer) ≡ t
+publish-keeps c t buffer = refl
+
+-- a reply is a refusal
+abbrev isRefused : Outcome → Bool
+isRefused (accepted consumed) = false
+isRefused (refused number) = true
+
+abbrev isDenied : Verdict → Bool
+isDenied change.accepted = false
+isDenied (change.refused number) = true
+
+abbrev isNotFound : Finding → Bool
+isNotFound (reading.held v) = false
+isNotFound reading.absent = false
+isNotFound (reading.refused number) = true
+
+abbrev isNotWritten : Result → Bool
+isNotWritten (written count) = false
+isNotWritten (posting.refused number) = true
+
+abbrev pub isRefusal : Reply → Bool
+isRefusal (received outcome) = isRefused outcome
+isRefusal (detaching verdict) = isDenied verdict
+isRefusal (finding found) = isNotFound found
+isRefusal (publishing p) = isNotWritten (p .result)
+
+-- LAW: nor does a call that is refused
+pub refusal-keeps : (c t : List ℕ) (e : Event) → isRefusal (replyTo c t e) ≡ true → afterOne c t e ≡ t
+refusal-keeps c t (receive socket bytes) = go (receivedOf c t socket bytes .outcome) refl
+  where
+    go : (x : Outcome) → receivedOf c t socket bytes .outcome ≡ x → isRefused x ≡ true → receivedOf c t socket bytes .table ≡ t
+    go (accepted consumed) e r = never (sym r)
+    go (refused number) e r = refused-keeps c t socket bytes number e
+refusal-keeps c t (detach socket) = go (detached c t socket .verdict) refl
+  where
+    go : (x : Verdict) → detached c t socket .verdict ≡ x → isDenied x ≡ true → detached c t socket .table ≡ t
+    go change.accepted e r = never (sym r)
+    go (change.refused number) e r = detached-keeps c t socket number e
+refusal-keeps c t (read socket index) = λ r. refl
+refusal-keeps c t (publish buffer) = λ r. refl

@@ -1,1 +1,4 @@
 pub mod Receive
+pub mod Calls
+pub mod Events
+pub mod ByRow

@@ -24,6 +24,7 @@ use Rattle.list_check.specs.declared.Checked.{Checked}
 use Rattle.list_check.specs.declared.Checked.the-variants.{Ok}
 use Rattle.list_check.specs.Check.{verdictOf, checkingOf}
 use Rattle.list_check.proofs.Promised.{accepted-read}
+use Rattle.list_decode.specs.declared.fill.Amounts.{Amounts}
 use Rattle.list_decode.specs.Decode.{accepted, refused, outcome, roomy, answered, decodingOf}
 use Rattle.list_decode.specs.Pieces.{tree, Judged, Filled}
 
@@ -59,7 +60,7 @@ module _ (s rows store : List ℕ) where
   decoding-fault r e p = decoding-read e ∙ rw p
 
   pub decoding-found : (es : Elements) (n : ℕ) → roomy rows store ≡ true → parse listLimit s ≡ good es n
-      → decodingOf s rows store ≡ outcome (accepted n (rowCount es)) (over (packed (listRows es)) rows) (over (listStore es) store)
+      → decodingOf s rows store ≡ outcome (accepted n (rowCount es) (length (listStore es))) (over (packed (listRows es)) rows) (over (listStore es) store)
   decoding-found es n e p = decoding-read e ∙ rw p
 
 -- what judging tells of what is read
@@ -86,7 +87,8 @@ module _ (s : List ℕ) (n : ℕ) (all : Bytes s) (judged : parse listLimit s �
     pub own-judged : Judged own rows store
     own-judged = record { whole = rw (own-same, own-length) judged; rowRoom = h; storeRoom = g }
 
-    pub own-answered : (count : ℕ) (rows′ store′ : List ℕ) → Filled own rows store count rows′ store′
-        → outcome (accepted n count) rows′ store′ ≡ decodingOf s rows store
-    own-answered count rows′ store′ e =
-        ap (λ (m : ℕ). outcome (accepted m count) rows′ store′) (sym own-length) ∙ e ∙ ap (answered rows store) own-same ∙ sym (decoding-read s rows store (enough rows store h g))
+    pub own-answered : (m : Amounts) (rows′ store′ : List ℕ) → Filled own rows store m rows′ store′
+        → outcome (accepted n (m .rows) (m .stored)) rows′ store′ ≡ decodingOf s rows store
+    own-answered m rows′ store′ e =
+        ap (λ (k : ℕ). outcome (accepted k (m .rows) (m .stored)) rows′ store′) (sym own-length)
+        ∙ e ∙ ap (answered rows store) own-same ∙ sym (decoding-read s rows store (enough rows store h g))

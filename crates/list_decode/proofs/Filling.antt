@@ -111,7 +111,7 @@ module _ {s kept-rows kept-store : List ℕ} {x : Cursor} {rows store : List ℕ
   stage-small = omega (arith, st .rest .rows-left .ends, st .few)
 
   pub stage-done : parse listLimit s ≡ good (told s) (length s) → length s < x .pos + 8
-      → Filled s kept-rows kept-store (x .row / 12) rows store
+      → Filled s kept-rows kept-store (record { rows = x .row / 12; stored = x .used }) rows store
   stage-done is few =
       let t : Elements = told s in
       let n : st .es ≡ none = nothing-left s (st .short) (x .pos) (st .es) (st .stands) few in
@@ -121,4 +121,5 @@ module _ {s kept-rows kept-store : List ℕ} {x : Cursor} {rows store : List ℕ
       let c : x .row / 12 ≡ rowCount t = omega (arith, a .behind, row-bytes t) in
       let d : rows ≡ over (packed (listRows t)) kept-rows = a .holds ∙ sets-front kept-rows (packed (listRows t)) (omega (arith, st .room .rowRoom)) in
       let e : store ≡ over (listStore t) kept-store = b .holds ∙ sets-front kept-store (listStore t) (omega (arith, st .room .storeRoom)) in
-      rw (is, c, d, e)
+      let f : x .used ≡ length (listStore t) = omega (arith, b .behind) in
+      rw (is, c, d, e, f)

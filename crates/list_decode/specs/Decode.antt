@@ -23,9 +23,9 @@ pub record Outcome (A : Type 0) : Type 0 where
 abbrev pub outcome : {A : Type 0} → A → List ℕ → List ℕ → Outcome A
 outcome a rows store = record { answer = a; rows = rows; store = store }
 
--- "answers bytes taken and rows filled", or the refusal
+-- "answers bytes taken and rows filled", and the store bytes in use, or the refusal
 pub data Reading : Type 0 where
-  accepted : (consumed rows : ℕ) → Reading
+  accepted : (consumed rows stored : ℕ) → Reading
   refused : Refusal → Reading
 
 -- 20: "list area or store under 4,096, rows under 3,072 numbers"
@@ -35,7 +35,7 @@ roomy rows store = leb rowRoom (length (unpacked rows)) && leb storeRoom (length
 -- "Table and lent areas keep their old contents. Success changes no part of an area beyond what was written."
 abbrev pub answered : List ℕ → List ℕ → Parsed Elements → Outcome Reading
 answered rows store (good es consumed) =
-    outcome (accepted consumed (rowCount es)) (over (packed (listRows es)) rows) (over (listStore es) store)
+    outcome (accepted consumed (rowCount es) (length (listStore es))) (over (packed (listRows es)) rows) (over (listStore es) store)
 answered rows store (bad r) = outcome (refused r) rows store
 
 -- "List reading: 20, then the first fault from the front"; 20 has the offset 0
@@ -45,5 +45,5 @@ decodingOf s rows store =
 
 -- what the code's answer says
 abbrev pub readingOf : Decoded → Reading
-readingOf (code.List consumed rows) = accepted consumed rows
+readingOf (code.List consumed rows stored) = accepted consumed rows stored
 readingOf (code.Refused r) = refused (refusalOf r)

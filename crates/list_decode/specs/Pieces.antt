@@ -15,6 +15,7 @@ use Rattle.list.specs.RowBytes.{packed}
 use Rattle.list.specs.Tree.{Elements, none}
 use Rattle.list.specs.Parse.{Parsed, good, bad, word, parse}
 use Rattle.list_decode.specs.declared.put.Cursor.{Cursor}
+use Rattle.list_decode.specs.declared.fill.Amounts.{Amounts}
 use Rattle.list_decode.specs.Decode.{accepted, outcome, answered}
 
 abbrev pub cursor : ℕ → ℕ → ℕ → Cursor
@@ -150,6 +151,7 @@ pub record Judged (s rows store : List ℕ) : Type 0 where
   pub rowRoom : 4 * rowRoom ≤ length rows
   pub storeRoom : storeRoom ≤ length store
 
--- its n rows and its store bytes were written
-abbrev pub Filled : List ℕ → List ℕ → List ℕ → ℕ → List ℕ → List ℕ → Type 0
-Filled s rows store n rows′ store′ = outcome (accepted (length s) n) rows′ store′ ≡ answered rows store (parse listLimit s)
+-- its rows and its store bytes were written, and these many
+abbrev pub Filled : List ℕ → List ℕ → List ℕ → Amounts → List ℕ → List ℕ → Type 0
+Filled s rows store n rows′ store′ =
+    outcome (accepted (length s) (n .rows) (n .stored)) rows′ store′ ≡ answered rows store (parse listLimit s)

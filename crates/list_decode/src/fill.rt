@@ -54,9 +54,15 @@ fn put_element(s: &[u8], x: Cursor, rows: &mut [u8], store: &mut [u8]) -> Cursor
     }
 }
 
-// The rows and the store bytes of the list of these bytes; answers the number of rows. An element takes its code and a number
+// How much was written: rows, and store bytes.
+pub struct Amounts {
+    pub rows: u32,
+    pub stored: usize,
+}
+
+// The rows and the store bytes of the list of these bytes; answers how many of each. An element takes its code and a number
 // or more.
-pub fn fill(s: &[u8], rows: &mut [u8], store: &mut [u8]) -> u32
+pub fn fill(s: &[u8], rows: &mut [u8], store: &mut [u8]) -> Amounts
     requires { ⌜ Judged (now s) (now rows) (now store) ⌝ }
     ensures { λ r. ⌜ Filled (now (s .entry)) (now (rows .entry)) (now (store .entry)) r (now (rows .exit)) (now (store .exit)) ⌝ }
 {
@@ -69,5 +75,9 @@ pub fn fill(s: &[u8], rows: &mut [u8], store: &mut [u8]) -> u32
         row = x.row;
         used = x.used;
     }
-    (row / ROW) as u32
+    let count = (row / ROW) as u32;
+    Amounts {
+        rows: count,
+        stored: used,
+    }
 }

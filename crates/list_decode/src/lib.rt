@@ -11,9 +11,13 @@ ghost use mathlib.Core.Path.{_≡_};
 ghost use Rattle.list.specs.Refusal.{refusal};
 ghost use Rattle.list_decode.specs.Decode.{refused, outcome, readingOf, decodingOf};
 
-// The list at the front: the bytes it takes and the rows it fills, or why it is refused.
+// The list at the front: the bytes it takes, the rows it fills and the store bytes in use, or why it is refused.
 pub enum Decoded {
-    List { consumed: usize, rows: u32 },
+    List {
+        consumed: usize,
+        rows: u32,
+        stored: usize,
+    },
     Refused(Refusal),
 }
 
@@ -41,7 +45,11 @@ pub fn decode(bytes: &[u8], rows: &mut [u8], store: &mut [u8]) -> Decoded
         Checked::Refused(r) => Decoded::Refused(r),
         Checked::Ok(consumed) => {
             let n = fill::fill(&bytes[0..consumed], rows, store);
-            Decoded::List { consumed, rows: n }
+            Decoded::List {
+                consumed,
+                rows: n.rows,
+                stored: n.stored,
+            }
         }
     }
 }

@@ -10,9 +10,9 @@ use Rattle.catalogue.specs.Format.{parametersBefore}
 use Rattle.catalogue.specs.Lookup.{deviceFrom, parameterIn}
 use Rattle.catalogue.proofs.Bench.{catalogueC}
 use Rattle.value.specs.Meaning.{whole, flag}
-use Rattle.table.specs.Slots.{freshSlot}
-use Rattle.table.specs.declared.Slot.{Slot}
-use Rattle.table.specs.declared.Answer.the-variants.{Accepted, Refused}
+use Rattle.slot.specs.Slot.{paramCount, freshSlot}
+use Rattle.slot.specs.declared.Slot.{Slot}
+use Rattle.table.specs.Change.{accepted, refused}
 use Rattle.parameters.specs.Data.{width, offsetOf, allReadable, sizeOf, allFlags, judged, storedTo, stored}
 use Rattle.parameters.specs.Read.{held, absent, contentOf}
 
@@ -24,15 +24,15 @@ abbrev payloadC : List ℕ
 payloadC = 5 ∷ 0 ∷ 0 ∷ 0 ∷ 7 ∷ 0 ∷ 0 ∷ 0 ∷ 1 ∷ []
 
 pub record BenchData : Type 0 where
-  pub is-accepted : judged catalogueC 7 payloadC ≡ Accepted
-  pub words-after : stored catalogueC payloadC rowC .bits ≡ set (set (replicate 32 0) 0 7) 2 1
+  pub is-accepted : judged catalogueC rowC payloadC ≡ accepted
+  pub words-after : stored catalogueC payloadC rowC .bits ≡ set (set (replicate paramCount 0) 0 7) 2 1
   pub int-7 : contentOf catalogueC (stored catalogueC payloadC rowC) 0 ≡ held (whole (pos 7))
   pub float-absent : contentOf catalogueC (stored catalogueC payloadC rowC) 1 ≡ absent
   pub bool-true : contentOf catalogueC (stored catalogueC payloadC rowC) 2 ≡ held (flag true)
-  pub not-readable : judged catalogueC 7 (2 ∷ 0 ∷ 0 ∷ 0 ∷ 0 ∷ 0 ∷ 0 ∷ 0 ∷ []) ≡ Refused 16
-  pub too-long : judged catalogueC 7 (0 ∷ 0 ∷ 0 ∷ 0 ∷ 0 ∷ []) ≡ Refused 17
-  pub no-flag : judged catalogueC 7 (4 ∷ 0 ∷ 0 ∷ 0 ∷ 2 ∷ []) ≡ Refused 18
-  pub empty-map : judged catalogueC 7 (0 ∷ 0 ∷ 0 ∷ 0 ∷ []) ≡ Accepted
+  pub not-readable : judged catalogueC rowC (2 ∷ 0 ∷ 0 ∷ 0 ∷ 0 ∷ 0 ∷ 0 ∷ 0 ∷ []) ≡ refused 16
+  pub too-long : judged catalogueC rowC (0 ∷ 0 ∷ 0 ∷ 0 ∷ 0 ∷ []) ≡ refused 17
+  pub no-flag : judged catalogueC rowC (4 ∷ 0 ∷ 0 ∷ 0 ∷ 2 ∷ []) ≡ refused 18
+  pub empty-map : judged catalogueC rowC (0 ∷ 0 ∷ 0 ∷ 0 ∷ []) ≡ accepted
 
 pub bench-data : BenchData
 unfolding judged allReadable sizeOf allFlags every width offsetOf storedTo contentOf parameterIn deviceFrom parametersBefore

@@ -7,20 +7,21 @@ use lib.Dec.{leb, eqb}
 use lib.ListN.{getD}
 use Rattle.wire.specs.Number.{numberAt}
 use Rattle.catalogue.specs.Format.{maxParameters, kindBool, described}
-use Rattle.catalogue.specs.Lookup.{deviceOf, parameterOf, BytesIn}
+use Rattle.catalogue.specs.Lookup.{deviceOf, BytesIn}
 use Rattle.catalogue.proofs.Bytes.{kind-is, readable-is}
-use Rattle.parameters.specs.Data.{width, spanIf, readableIf, flagIf}
+use Rattle.slot.specs.declared.Slot.{Slot}
+use Rattle.parameters.specs.Data.{width, widthOf, spanIf, readableIf, flagIf}
 
-module _ {c : List ℕ} (device : ℕ) {bytes : List ℕ} (h : BytesIn c (deviceOf c device) bytes) (p : ℕ) (l : p < maxParameters) where
-  pub readable-by : (isNamed : Bool) → (not isNamed || described (getD bytes p 0) .readable) ≡ readableIf c device p isNamed
+module _ {c : List ℕ} (s : Slot) {bytes : List ℕ} (h : BytesIn c (deviceOf c (s .device)) bytes) (p : ℕ) (l : p < maxParameters) where
+  pub readable-by : (isNamed : Bool) → (not isNamed || described (getD bytes p 0) .readable) ≡ readableIf c s p isNamed
   readable-by isNamed = ap (λ (r : Bool). not isNamed || r) (sym (readable-is h p l))
 
-  pub span-by : (isNamed : Bool) → cond isNamed (width (described (getD bytes p 0) .kind)) 0 ≡ spanIf c device p isNamed
+  pub span-by : (isNamed : Bool) → cond isNamed (width (described (getD bytes p 0) .kind)) 0 ≡ spanIf c s p isNamed
   span-by isNamed = ap (λ (k : ℕ). cond isNamed (width k) 0) (sym (kind-is h p l))
 
   pub flag-by :
       (isNamed : Bool) (payload : List ℕ) (at : ℕ) →
       (not (isNamed && eqb (described (getD bytes p 0) .kind) kindBool) || leb (numberAt (width (described (getD bytes p 0) .kind)) payload at) 1) ≡
-      flagIf c device p isNamed (numberAt (width (parameterOf c device p .kind)) payload at)
+      flagIf c s p isNamed (numberAt (widthOf c s p) payload at)
   flag-by isNamed payload at =
       ap (λ (k : ℕ). not (isNamed && eqb k kindBool) || leb (numberAt (width k) payload at) 1) (sym (kind-is h p l))

@@ -4,56 +4,58 @@ use mathlib.Core.Path.{_≡_, refl, ap, _∙_}
 use mathlib.Core.Bool.{Bool, true, false, cond, _&&_}
 use mathlib.Core.List.{List}
 use lib.Dec.{ltb}
-use lib.ListN.{getD-replicate}
+use lib.ListN.{length, getD-replicate}
 use borrow.Author.Tests.{lt-ltb, ltb-true}
 use Rattle.catalogue.specs.Lookup.{parameterOf}
 use Rattle.value.specs.Meaning.{meant}
-use Rattle.table.specs.Slots.{paramCount, ShapedSlot, freshSlot, slotAt, slotOf}
-use Rattle.table.specs.Lawful.{presentAt, bitsAt, admitted}
-use Rattle.table.specs.declared.Slot.{Slot}
-use Rattle.table.specs.declared.Table.{Table}
-use Rattle.table.specs.declared.Place.the-variants.{At}
-use Rattle.table.specs.declared.Answer.the-variants as answer
+use Rattle.slot.specs.Slot.{paramCount, presentAt, bitsAt, freshSlot}
+use Rattle.slot.specs.Rows.{slotAt}
+use Rattle.slot.specs.declared.Slot.{Slot}
+use Rattle.table.specs.Places.{placeOf, rowAt}
+use Rattle.table.specs.declared.Place.{Place}
+use Rattle.table.specs.declared.Place.the-variants.{At, Nowhere}
 use Rattle.parameters.specs.Data.{mapOf, named, valueIn, stored}
-use Rattle.parameters.specs.Read.{held, absent, contentOf, readOf}
+use Rattle.parameters.specs.Read.{held, absent, refused, contentOf, finding, found}
 use Rattle.parameters.proofs.Values.{data-same-device, data-present, data-bits}
 
-module _ (c : List ℕ) (payload : List ℕ) (s : Slot) (h : ShapedSlot s) (p : ℕ) where
-  abbrev after : Slot
-  after = stored c payload s
+-- a row of as many flags and numbers as there are parameters, as each row of a table is
+module _
+    (c : List ℕ) (payload : List ℕ) (s : Slot) (h : (length (s .present) ≡ paramCount) × (length (s .bits) ≡ paramCount)) (p : ℕ)
+  where
+    abbrev after : Slot
+    after = stored c payload s
 
-  present-as : (b : Bool) → p < paramCount → named (mapOf payload) p ≡ b → presentAt after p ≡ cond b true (presentAt s p)
-  present-as b l n = data-present c payload s h p l ∙ ap (λ (x : Bool). cond x true (presentAt s p)) n
+    present-as : (b : Bool) → p < paramCount → named (mapOf payload) p ≡ b → presentAt after p ≡ cond b true (presentAt s p)
+    present-as b l n = data-present c payload s (h .0) p l ∙ ap (λ (x : Bool). cond x true (presentAt s p)) n
 
-  bits-as :
-      (b : Bool) → p < paramCount → named (mapOf payload) p ≡ b →
-      bitsAt after p ≡ cond b (valueIn c (s .device) (mapOf payload) payload p) (bitsAt s p)
-  bits-as b l n =
-      data-bits c payload s h p l ∙
-      ap (λ (x : Bool). cond x (valueIn c (s .device) (mapOf payload) payload p) (bitsAt s p)) n
+    bits-as :
+        (b : Bool) → p < paramCount → named (mapOf payload) p ≡ b →
+        bitsAt after p ≡ cond b (valueIn c s (mapOf payload) payload p) (bitsAt s p)
+    bits-as b l n =
+        data-bits c payload s (h .1) p l ∙ ap (λ (x : Bool). cond x (valueIn c s (mapOf payload) payload p) (bitsAt s p)) n
 
-  -- LAW: a parameter that the map names reads as the packet's value, by the catalogue's kind of it
-  pub named-reads :
-      p < paramCount → named (mapOf payload) p ≡ true →
-      contentOf c (stored c payload s) p ≡
-      held (meant (parameterOf c (s .device) p .kind) (valueIn c (s .device) (mapOf payload) payload p))
-  unfolding contentOf
-  named-reads l n =
-      rw (lt-ltb p paramCount l, present-as true l n, bits-as true l n, data-same-device c payload s .device-same)
+    -- LAW: a parameter that the map names reads as the packet's value, by the catalogue's kind of it
+    pub named-reads :
+        p < paramCount → named (mapOf payload) p ≡ true →
+        contentOf c (stored c payload s) p ≡
+        held (meant (parameterOf c (s .device) p .kind) (valueIn c s (mapOf payload) payload p))
+    unfolding contentOf
+    named-reads l n =
+        rw (lt-ltb p paramCount l, present-as true l n, bits-as true l n, data-same-device c payload s .device-same)
 
-  -- LAW: any other parameter reads as before
-  pub unnamed-reads : named (mapOf payload) p ≡ false → contentOf c (stored c payload s) p ≡ contentOf c s p
-  unfolding contentOf
-  unnamed-reads n = go (ltb p paramCount) refl
-    where
-      go :
-          (b : Bool) → ltb p paramCount ≡ b →
-          cond (b && presentAt after p) (held (meant (parameterOf c (after .device) p .kind) (bitsAt after p))) absent ≡
-          cond (b && presentAt s p) (held (meant (parameterOf c (s .device) p .kind) (bitsAt s p))) absent
-      go false e = refl
-      go true e =
-          let l = ltb-true p paramCount e in
-          rw (present-as false l n, bits-as false l n, data-same-device c payload s .device-same)
+    -- LAW: any other parameter reads as before
+    pub unnamed-reads : named (mapOf payload) p ≡ false → contentOf c (stored c payload s) p ≡ contentOf c s p
+    unfolding contentOf
+    unnamed-reads n = go (ltb p paramCount) refl
+      where
+        go :
+            (b : Bool) → ltb p paramCount ≡ b →
+            cond (b && presentAt after p) (held (meant (parameterOf c (after .device) p .kind) (bitsAt after p))) absent ≡
+            cond (b && presentAt s p) (held (meant (parameterOf c (s .device) p .kind) (bitsAt s p))) absent
+        go false e = refl
+        go true e =
+            let l = ltb-true p paramCount e in
+            rw (present-as false l n, bits-as false l n, data-same-device c payload s .device-same)
 
 -- LAW: a new row has no values
 pub fresh-reads :
@@ -63,13 +65,17 @@ fresh-reads c taken socket device year uid p = go (ltb p paramCount) refl
   where
     go :
         (b : Bool) → ltb p paramCount ≡ b →
-        cond (b && presentAt (freshSlot taken socket device year uid) p) (held (meant (parameterOf c device p .kind) (bitsAt (freshSlot taken socket device year uid) p))) absent ≡ absent
+        cond (b && presentAt (freshSlot taken socket device year uid) p)
+        (held (meant (parameterOf c device p .kind) (bitsAt (freshSlot taken socket device year uid) p)))
+        absent ≡ absent
     go false e = refl
     go true e = rw (getD-replicate paramCount p false false (ltb-true p paramCount e))
 
--- LAW: reading answers what the slot of the socket's device holds
+-- LAW: reading answers what the row of the socket's device holds
 pub read-found :
-    (c : List ℕ) (t : Table) (socket i p : ℕ) → admitted c t socket ≡ answer.Accepted → slotOf t socket ≡ At i →
-    readOf c t socket p ≡ contentOf c (slotAt t i) p
-unfolding readOf
-read-found c t socket i p a e = rw (a, e)
+    (slots : ℕ) (c t : List ℕ) (socket i p : ℕ) → placeOf slots t socket ≡ At i → found slots c t socket p ≡ contentOf c (slotAt t i) p
+read-found slots c t socket i p e = ap (λ (z : Place). finding c (rowAt t z) p) e
+
+-- LAW: and 15 where the socket has none
+pub read-none : (slots : ℕ) (c t : List ℕ) (socket p : ℕ) → placeOf slots t socket ≡ Nowhere → found slots c t socket p ≡ refused 15
+read-none slots c t socket p e = ap (λ (z : Place). finding c (rowAt t z) p) e

@@ -3,9 +3,10 @@ pub mod Rests
 pub mod ByBytes
 pub mod Stores
 pub mod Values
+pub mod Ranges
+pub mod Rows
 pub mod Judged
+pub mod Payloads
 pub mod Laws
 pub mod Contents
-pub mod Ranges
-pub mod Payloads
 pub mod Bench

@@ -10,8 +10,8 @@ use native.Mathlib.Nat.{div-eq-of-lt, eq-or-lt-of-le}
 use native.Mathlib.Omega.{arith}
 use Rattle.wire.proofs.Chains.{every-more}
 use Rattle.wire.specs.Every.{every}
-use Rattle.table.specs.Slots.{paramCount}
-use Rattle.table.specs.declared.Slot.{Slot}
+use Rattle.slot.specs.Slot.{paramCount}
+use Rattle.slot.specs.declared.Slot.{Slot}
 use Rattle.parameters.specs.Data.{allFlags, named, flagIf, valueIn, offsetOf, storedTo}
 use Rattle.parameters.proofs.Steps.{rest-more, offset-unnamed, stored-unnamed}
 
@@ -43,22 +43,19 @@ module _ (map : ℕ) {rest p : ℕ} (h : p ≤ paramCount) (e : rest ≡ map / 2
   unnamed : (q : ℕ) → p ≤ q → named map q ≡ false
   unnamed q l = rw (no-rest q l)
 
-  pub offset-rest : (c : List ℕ) (device : ℕ) → offsetOf c device map paramCount ≡ offsetOf c device map p
-  offset-rest c device =
-      from-on (λ q. offsetOf c device map q ≡ offsetOf c device map p) p refl
-      (λ q l i. offset-unnamed c device map q (unnamed q l) ∙ i) paramCount h
+  pub offset-rest : (c : List ℕ) (s : Slot) → offsetOf c s map paramCount ≡ offsetOf c s map p
+  offset-rest c s =
+      from-on (λ q. offsetOf c s map q ≡ offsetOf c s map p) p refl (λ q l i. offset-unnamed c s map q (unnamed q l) ∙ i) paramCount h
 
-  pub stored-rest :
-      (c : List ℕ) (device : ℕ) (payload : List ℕ) (s : Slot) →
-      storedTo c device map payload s paramCount ≡ storedTo c device map payload s p
-  stored-rest c device payload s =
-      from-on (λ q. storedTo c device map payload s q ≡ storedTo c device map payload s p) p refl
-      (λ q l i. stored-unnamed c device map q payload s (unnamed q l) ∙ i) paramCount h
+  pub stored-rest : (c : List ℕ) (s : Slot) (payload : List ℕ) → storedTo c s map payload paramCount ≡ storedTo c s map payload p
+  stored-rest c s payload =
+      from-on (λ q. storedTo c s map payload q ≡ storedTo c s map payload p) p refl
+      (λ q l i. stored-unnamed c s map q payload (unnamed q l) ∙ i) paramCount h
 
   pub flags-rest :
-      (c : List ℕ) (device : ℕ) (payload : List ℕ) →
-      every p (λ q. flagIf c device q (named map q) (valueIn c device map payload q)) ≡ true → true ≡ allFlags c device map payload
+      (c : List ℕ) (s : Slot) (payload : List ℕ) →
+      every p (λ q. flagIf c s q (named map q) (valueIn c s map payload q)) ≡ true → true ≡ allFlags c s map payload
   unfolding allFlags
-  flags-rest c device payload i =
-      let test : ℕ → Bool = λ q. flagIf c device q (named map q) (valueIn c device map payload q) in
+  flags-rest c s payload i =
+      let test : ℕ → Bool = λ q. flagIf c s q (named map q) (valueIn c s map payload q) in
       sym (from-on (λ q. every q test ≡ true) p i (λ q l k. every-more q test k (rw (unnamed q l))) paramCount h)

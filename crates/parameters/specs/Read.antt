@@ -2,17 +2,13 @@
 use Prim.Native.Nat.{ℕ}
 use mathlib.Core.Bool.{_&&_, cond}
 use mathlib.Core.List.{List}
+use mathlib.Core.Option.{Option, none, some}
 use lib.Dec.{ltb}
 use Rattle.catalogue.specs.Lookup.{parameterOf}
 use Rattle.value.specs.Meaning.{Meaning, meaningOf, meant}
-use Rattle.table.specs.Slots.{paramCount, slotAt, slotOf}
-use Rattle.table.specs.Lawful.{presentAt, bitsAt, admitted}
-use Rattle.table.specs.declared.Slot.{Slot}
-use Rattle.table.specs.declared.Table.{Table}
-use Rattle.table.specs.declared.Place.{Place}
-use Rattle.table.specs.declared.Place.the-variants.{At, Nowhere}
-use Rattle.table.specs.declared.Answer.{Answer}
-use Rattle.table.specs.declared.Answer.the-variants as answer
+use Rattle.slot.specs.Slot.{paramCount, presentAt, bitsAt}
+use Rattle.slot.specs.declared.Slot.{Slot}
+use Rattle.table.specs.Places.{rowOf}
 use Rattle.parameters.specs.declared.Content.{Content}
 use Rattle.parameters.specs.declared.Content.the-variants.{Held, Absent}
 use Rattle.parameters.specs.declared.Reading.{Reading}
@@ -39,16 +35,11 @@ unfoldable pub contentOf : List ℕ → Slot → ℕ → Finding
 contentOf c s index =
     cond (ltb index paramCount && presentAt s index) (held (meant (parameterOf c (s .device) index .kind) (bitsAt s index))) absent
 
--- 15, "socket has no guest"
-abbrev pub contentAt : List ℕ → Table → ℕ → Place → Finding
-contentAt c t index (At i) = contentOf c (slotAt t i) index
-contentAt c t index Nowhere = refused 15
+-- of the socket's row, if it has one; 15, "socket has no guest"
+abbrev pub finding : List ℕ → Option Slot → ℕ → Finding
+finding c (some s) index = contentOf c s index
+finding c none index = refused 15
 
--- 11, 9 and 10 come first
-abbrev pub readIf : Answer → Finding → Finding
-readIf answer.Accepted r = r
-readIf (answer.Refused number) r = refused number
-
--- one parameter of a socket's device, judged as leaving is: 11, 9, 10, 15
-unfoldable pub readOf : List ℕ → Table → ℕ → ℕ → Finding
-readOf c t socket index = readIf (admitted c t socket) (contentAt c t index (slotOf t socket))
+-- one parameter of a socket's device
+abbrev pub found : ℕ → List ℕ → List ℕ → ℕ → ℕ → Finding
+found slots c t socket index = finding c (rowOf slots t socket) index

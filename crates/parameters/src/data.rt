@@ -1,25 +1,22 @@
 // DEVICE_DATA: all is judged before anything is written.
+use catalogue::MAX_PARAMETERS;
+use slot::SLOT_BYTES;
 use table::Answer;
-use table::Change;
-use table::PARAMS;
 use table::Place;
-use table::Slot;
-use table::Table;
-ghost use Prim.Native.Nat.{_≤_, _<_};
+ghost use Prim.Native.Nat.{_≤_};
 ghost use mathlib.Core.Path.{_≡_};
-ghost use mathlib.Core.Bool.{_&&_, _||_, not, cond};
+ghost use mathlib.Core.Bool.{true, _&&_, _||_, not, cond};
 ghost use lib.Dec.{leb, eqb};
 ghost use Rattle.wire.specs.Number.{numberAt};
 ghost use Rattle.catalogue.specs.Format.{kindBool, described};
 ghost use Rattle.catalogue.specs.Lookup.{deviceOf, BytesIn};
-ghost use Rattle.table.specs.Slots.{slotCount, paramCount, slotOf, changedIf, WellFormed, ForPlace, changed, effectOf};
-ghost use Rattle.parameters.specs.Data.{width, sizeOf, allReadable, allFlags, judged, storedTo, stored, dataSized, applying};
+ghost use Rattle.slot.specs.Slot.{paramCount};
+ghost use Rattle.slot.specs.Row.{slotOf, slotBytes, isRow};
+ghost use Rattle.table.specs.Change.{verdictOf};
+ghost use Rattle.parameters.specs.Data.{width, allReadable, sizeOf, allFlags, judged, storedTo, changedRow, applied};
 
 // The bytes before the first value: the map's.
 const MAP_BYTES: usize = 4;
-
-// The longest payload: the map and 32 values of 4 bytes.
-const DATA_MOST: usize = 132;
 
 // How many bytes a value of this kind has in a packet.
 fn width_of(kind: u8) -> usize
@@ -59,15 +56,15 @@ fn is_readable_if(b: u8, bit: u32) -> bool
 }
 
 // 16: each parameter that the map names is readable. Here and below `bytes` are those of the device type; the contract alone
-// asks for the catalogue. This loop makes all 32 rounds: when it ended early, as the others do, the compiled hub took a larger
-// stack frame and more instructions for each received packet.
-fn are_readable(c: &[u8], device: u8, bytes: [u8; PARAMS], map: u32) -> bool
-    requires { ⌜ BytesIn (now c) (deviceOf (now c) device) bytes ⌝ }
-    ensures { λ r. ⌜ r ≡ allReadable (now (c .entry)) device map ⌝ }
+// asks for the catalogue and the row. This loop makes all 32 rounds: one that ends early, as the others do, compiles to a larger
+// stack frame and more instructions for each packet.
+fn are_readable(c: &[u8], row: &[u8], bytes: [u8; MAX_PARAMETERS], map: u32) -> bool
+    requires { ⌜ BytesIn (now c) (deviceOf (now c) (slotOf (now row) .device)) bytes ⌝ }
+    ensures { λ r. ⌜ r ≡ allReadable (now (c .entry)) (slotOf (now (row .entry))) map ⌝ }
 {
     let mut rest = map;
     let mut p: usize = 0;
-    while p < PARAMS {
+    while p < MAX_PARAMETERS {
         if is_readable_if(bytes[p], rest % 2) {
             rest = rest / 2;
             p += 1;
@@ -91,9 +88,9 @@ fn span_if(b: u8, bit: u32) -> usize
 
 // 17: how many bytes a payload with this map has. Here and below the loop ends when no set bit is left, since most packets
 // name few parameters.
-fn size_of(c: &[u8], device: u8, bytes: [u8; PARAMS], map: u32) -> usize
-    requires { ⌜ BytesIn (now c) (deviceOf (now c) device) bytes ⌝ }
-    ensures { λ r. ⌜ r ≡ sizeOf (now (c .entry)) device map ⌝ }
+fn size_of(c: &[u8], row: &[u8], bytes: [u8; MAX_PARAMETERS], map: u32) -> usize
+    requires { ⌜ BytesIn (now c) (deviceOf (now c) (slotOf (now row) .device)) bytes ⌝ }
+    ensures { λ r. ⌜ r ≡ sizeOf (now (c .entry)) (slotOf (now (row .entry))) map ⌝ }
 {
     let mut rest = map;
     let mut at: usize = MAP_BYTES;
@@ -120,9 +117,9 @@ fn is_flag_if(b: u8, bit: u32, payload: &[u8], at: usize) -> bool
 }
 
 // 18: each BOOL that the map names is 0 or 1.
-fn are_flags(c: &[u8], device: u8, bytes: [u8; PARAMS], map: u32, payload: &[u8]) -> bool
-    requires { ⌜ BytesIn (now c) (deviceOf (now c) device) bytes ⌝ }
-    ensures { λ r. ⌜ r ≡ allFlags (now (c .entry)) device map (now (payload .entry)) ⌝ }
+fn are_flags(c: &[u8], row: &[u8], bytes: [u8; MAX_PARAMETERS], map: u32, payload: &[u8]) -> bool
+    requires { ⌜ BytesIn (now c) (deviceOf (now c) (slotOf (now row) .device)) bytes ⌝ }
+    ensures { λ r. ⌜ r ≡ allFlags (now (c .entry)) (slotOf (now (row .entry))) map (now (payload .entry)) ⌝ }
 {
     let mut rest = map;
     let mut at: usize = MAP_BYTES;
@@ -139,14 +136,14 @@ fn are_flags(c: &[u8], device: u8, bytes: [u8; PARAMS], map: u32, payload: &[u8]
     true
 }
 
-fn judge(c: &[u8], device: u8, bytes: [u8; PARAMS], payload: &[u8]) -> Answer
-    requires { ⌜ BytesIn (now c) (deviceOf (now c) device) bytes ⌝ }
-    ensures { λ r. ⌜ r ≡ judged (now (c .entry)) device (now (payload .entry)) ⌝ }
+fn judge(c: &[u8], row: &[u8], bytes: [u8; MAX_PARAMETERS], payload: &[u8]) -> Answer
+    requires { ⌜ BytesIn (now c) (deviceOf (now c) (slotOf (now row) .device)) bytes ⌝ }
+    ensures { λ r. ⌜ verdictOf r ≡ judged (now (c .entry)) (slotOf (now (row .entry))) (now (payload .entry)) ⌝ }
 {
     let map = numbers::u32_at(payload, 0);
-    if are_readable(c, device, bytes, map) {
-        if size_of(c, device, bytes, map) == payload.len() {
-            if are_flags(c, device, bytes, map, payload) {
+    if are_readable(c, row, bytes, map) {
+        if size_of(c, row, bytes, map) == payload.len() {
+            if are_flags(c, row, bytes, map, payload) {
                 return Answer::Accepted;
             }
             return Answer::Refused(18);
@@ -156,12 +153,11 @@ fn judge(c: &[u8], device: u8, bytes: [u8; PARAMS], payload: &[u8]) -> Answer
     Answer::Refused(16)
 }
 
-// The row with the values that the payload has.
-fn store(c: &[u8], device: u8, bytes: [u8; PARAMS], map: u32, payload: &[u8], s: Slot) -> Slot
-    requires { ⌜ BytesIn (now c) (deviceOf (now c) device) bytes ⌝ }
-    ensures { λ r. ⌜ r ≡ storedTo (now (c .entry)) device map (now (payload .entry)) s paramCount ⌝ }
+// The values that the payload has are put into the row, in place.
+fn store(c: &[u8], row: &mut [u8], bytes: [u8; MAX_PARAMETERS], map: u32, payload: &[u8])
+    requires { ⌜ BytesIn (now c) (deviceOf (now c) (slotOf (now row) .device)) bytes × (isRow (now row) ≡ true) ⌝ }
+    ensures { λ _. ⌜ now (row .exit) ≡ slotBytes (storedTo (now (c .entry)) (slotOf (now (row .entry))) map (now (payload .entry)) paramCount) ⌝ }
 {
-    let mut t = s;
     let mut rest = map;
     let mut at: usize = MAP_BYTES;
     let mut p: usize = 0;
@@ -169,58 +165,44 @@ fn store(c: &[u8], device: u8, bytes: [u8; PARAMS], map: u32, payload: &[u8], s:
         if rest % 2 == 1 {
             let q = catalogue::describe(bytes[p]);
             let v = value_at(q.kind, payload, at);
-            t.present[p] = true;
-            t.bits[p] = v;
+            slot::put_value(&mut *row, p, v);
             at += width_of(q.kind);
         }
         rest = rest / 2;
         p += 1;
     }
-    t
 }
 
-// The row of slot `i` with the payload's values, or the error of the payload.
-fn change_row(c: &[u8], s: Slot, i: usize, payload: &[u8]) -> Change
-    requires { ⌜ i < slotCount ⌝ }
-    ensures { λ r. ⌜ ((t : Table) → effectOf (changed t r) ≡ effectOf (changedIf (judged (now (c .entry)) (s .device) (now (payload .entry))) t i (stored (now (c .entry)) (now (payload .entry)) s))) × WellFormed r × ForPlace (Place.At i) r ⌝ }
+// The device's row with the payload's values: 9 for bytes that are no row, 16, 17, 18.
+fn change_row(c: &[u8], row: &mut [u8], payload: &[u8]) -> Answer
+    ensures { λ r. ⌜ record { verdict = verdictOf r; table = now (row .exit) } ≡ changedRow (now (c .entry)) (now (row .entry)) (now (payload .entry)) ⌝ }
 {
-    let device = s.device;
-    let d = catalogue::find_device(c, device);
+    if !slot::is_row(&*row) {
+        return Answer::Refused(9);
+    }
+    let d = catalogue::find_device(c, row[slot::DEVICE]);
     let bytes = catalogue::parameter_bytes(c, d);
-    let a = judge(c, device, bytes, payload);
+    let a = judge(c, &*row, bytes, payload);
     match a {
         Answer::Accepted => {
-            let map = numbers::u32_at(payload, 0);
-            let n = store(c, device, bytes, map, payload, s);
-            return Change {
-                answer: Answer::Accepted,
-                at: i,
-                slot: n,
-            };
+            store(c, row, bytes, numbers::u32_at(payload, 0), payload);
+            Answer::Accepted
         }
-        Answer::Refused(number) => return table::no_change(number),
+        Answer::Refused(number) => Answer::Refused(number),
     }
 }
 
-fn is_data_size(n: usize) -> bool
-    ensures { λ r. ⌜ r ≡ dataSized n ⌝ }
+// A DEVICE_DATA payload from a socket: 15, 9 where the socket's bytes are no row, 16, 17, 18, or the values that its map names
+// are replaced in the socket's row.
+pub fn apply_data(c: &[u8], t: &mut [u8], slots: usize, socket: u8, payload: &[u8]) -> Answer
+    ensures { λ r. ⌜ record { verdict = verdictOf r; table = now (t .exit) } ≡ applied slots (now (c .entry)) (now (t .entry)) socket (now (payload .entry)) ⌝ }
 {
-    MAP_BYTES <= n && n <= DATA_MOST
-}
-
-// What a DEVICE_DATA payload from a socket asks of the table: 8, 15, 16, 17, 18, or the socket's row with the values that its map
-// names replaced.
-pub fn apply_data(c: &[u8], t: Table, socket: u8, payload: &[u8]) -> Change
-    ensures { λ r. ⌜ (effectOf (changed t r) ≡ applying (now (c .entry)) t socket (now (payload .entry))) × WellFormed r × ForPlace (slotOf t socket) r ⌝ }
-{
-    if is_data_size(payload.len()) {
-        let found = table::find_row(t, socket);
-        let p = found.place;
-        let s = found.slot;
-        match p {
-            Place::At(i) => return change_row(c, s, i, payload),
-            Place::Nowhere => return table::no_change(15),
+    let p = table::find_slot(&*t, slots, socket);
+    match p {
+        Place::At(i) => {
+            let at = SLOT_BYTES * i;
+            change_row(c, &mut t[at..at + SLOT_BYTES], payload)
         }
+        Place::Nowhere => Answer::Refused(15),
     }
-    table::no_change(8)
 }

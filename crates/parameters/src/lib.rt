@@ -1,9 +1,9 @@
 // A device's parameters: its row with a DEVICE_DATA packet's values, and the reading of one parameter.
 mod data;
-mod read;
+mod parameter;
 
 pub use data::apply_data;
-pub use read::read_parameter;
+pub use parameter::read;
 use value::Value;
 
 // What is held of one parameter.

@@ -1,5 +1,4 @@
 pub mod Stores
-pub mod Bits
 pub mod Pieces
 pub mod Loops
 pub mod Size

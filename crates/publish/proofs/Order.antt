@@ -1,23 +1,28 @@
 -- The rows of the published list: one for each device, in rising socket order, and in each row one list for each held parameter, rising.
 use Prim.Native.Nat.{ℕ, zero, suc, _+_, _≤_, _<_}
-use mathlib.Core.Path.{_≡_, refl, ap}
-use mathlib.Core.Bool.{Bool, true, false}
+use mathlib.Core.Path.{_≡_, refl, sym, ap, _∙_}
+use mathlib.Core.Bool.{Bool, true, false, cond}
 use mathlib.Core.List.{List, [], _∷_}
+use mathlib.Core.Option as option
+use mathlib.Core.Option.{Option, some, Option·map}
 use mathlib.Core.Logic.{_⊎_, inl, inr, ⊎-elim}
 use native.Mathlib.Omega.{arith}
 use native.Mathlib.Nat.{eq-or-lt-of-le}
+use lib.Dec.{eqb}
 use lib.ListN.{length}
+use borrow.Author.Tests.{eq-eqb, ne-eqb}
 use Rattle.list.specs.Tree as tree
 use Rattle.list.specs.Tree.{Elements, none, value, list, int, vocab, float, str, blob, count}
-use Rattle.table.specs.Slots.{slotCount, socketCount, paramCount, slotAt, slotOf}
-use Rattle.table.specs.Lawful.{presentAt, Lawful}
-use Rattle.table.specs.declared.Slot.{Slot}
-use Rattle.table.specs.declared.Table.{Table}
+use Rattle.slot.specs.Slot.{paramCount, presentAt}
+use Rattle.slot.specs.Rows.{slotAt}
+use Rattle.slot.specs.declared.Slot.{Slot}
+use Rattle.table.specs.Places.{placeOf, rowAt, rowOf}
 use Rattle.table.specs.declared.Place.{Place}
 use Rattle.table.specs.declared.Place.the-variants.{At, Nowhere}
-use Rattle.table.proofs.Places.{holds-parts, slot-found}
-use Rattle.table.proofs.Keeps.{own-slot}
-use Rattle.publish.specs.Published.{elementOf, heldValue, pair, listIf, parametersFrom, device, rowBefore, devicesFrom, published}
+use Rattle.table.proofs.Searches.{holds-parts, place-found}
+use Rattle.lawful.specs.Lawful.{Lawful}
+use Rattle.lawful.proofs.Keeps.{own-place}
+use Rattle.publish.specs.Published.{elementOf, heldValue, pair, listIf, parametersFrom, deviceRow, rowBefore, devicesFrom, published}
 
 -- WHAT IS SAID
 -- a list stands among the elements
@@ -54,100 +59,188 @@ abbrev pub Rising : List ℕ → Type 0
 Rising [] = Unit {0}
 Rising (a ∷ l) = Above a l × Rising l
 
--- DEVICES
-devices-above : (n : ℕ) (c : List ℕ) (t : Table) (socket j : ℕ) → j < socket → Above j (firsts (devicesFrom n c t socket))
-unfolding devicesFrom rowBefore device
-devices-above zero c t socket j h = tt
-devices-above (suc n) c t socket j h = go (slotOf t socket) refl (devices-above n c t (socket + 1) j (omega arith))
-  where
-    go :
-        (p : Place) → slotOf t socket ≡ p → Above j (firsts (devicesFrom n c t (socket + 1))) →
-        Above j (firsts (rowBefore c t p (devicesFrom n c t (socket + 1))))
-    go Nowhere e a = a
-    go (At i) e a = let q = holds-parts (slotAt t i) socket (slot-found t socket i e .0) .1 in (omega arith, a)
+-- the list among the elements whose first number is this one
+abbrev pub listOf : Elements → ℕ → Option Elements
+listOf none n = option.none
+listOf (value v es) n = listOf es n
+listOf (list inner es) n = cond (eqb (firstOf inner) n) (some inner) (listOf es n)
 
-devices-rise : (n : ℕ) (c : List ℕ) (t : Table) (socket : ℕ) → Rising (firsts (devicesFrom n c t socket))
-unfolding devicesFrom rowBefore device
-devices-rise zero c t socket = tt
-devices-rise (suc n) c t socket = go (slotOf t socket) refl (devices-rise n c t (socket + 1))
+-- DEVICES
+-- the row that is found for a socket is that socket's
+row-socket : (slots : ℕ) (t : List ℕ) (socket i : ℕ) → placeOf slots t socket ≡ At i → slotAt t i .socket ≡ socket
+row-socket slots t socket i e = holds-parts (slotAt t i) socket (place-found slots t socket i e .0) .1
+
+devices-above :
+    (n slots : ℕ) (c t : List ℕ) (socket j : ℕ) → j < socket → Above j (firsts (devicesFrom n slots c t socket))
+unfolding devicesFrom rowBefore deviceRow
+devices-above zero slots c t socket j h = tt
+devices-above (suc n) slots c t socket j h = go (placeOf slots t socket) refl (devices-above n slots c t (socket + 1) j (omega arith))
   where
     go :
-        (p : Place) → slotOf t socket ≡ p → Rising (firsts (devicesFrom n c t (socket + 1))) →
-        Rising (firsts (rowBefore c t p (devicesFrom n c t (socket + 1))))
+        (p : Place) → placeOf slots t socket ≡ p → Above j (firsts (devicesFrom n slots c t (socket + 1))) →
+        Above j (firsts (rowBefore c (rowAt t p) (devicesFrom n slots c t (socket + 1))))
+    go Nowhere e a = a
+    go (At i) e a = let q = row-socket slots t socket i e in (omega arith, a)
+
+devices-rise : (n slots : ℕ) (c t : List ℕ) (socket : ℕ) → Rising (firsts (devicesFrom n slots c t socket))
+unfolding devicesFrom rowBefore deviceRow
+devices-rise zero slots c t socket = tt
+devices-rise (suc n) slots c t socket = go (placeOf slots t socket) refl (devices-rise n slots c t (socket + 1))
+  where
+    go :
+        (p : Place) → placeOf slots t socket ≡ p → Rising (firsts (devicesFrom n slots c t (socket + 1))) →
+        Rising (firsts (rowBefore c (rowAt t p) (devicesFrom n slots c t (socket + 1))))
     go Nowhere e r = r
     go (At i) e r =
-        let q = holds-parts (slotAt t i) socket (slot-found t socket i e .0) .1 in
-        (devices-above n c t (socket + 1) (slotAt t i .socket) (omega arith), r)
+        let q = row-socket slots t socket i e in
+        (devices-above n slots c t (socket + 1) (slotAt t i .socket) (omega arith), r)
 
 -- LAW: "in rising socket order", so no socket has two rows
-pub rows-rise : (c : List ℕ) (t : Table) → Rising (firsts (published c t))
-rows-rise c t = devices-rise socketCount c t 0
+pub rows-rise : (slots sockets : ℕ) (c t : List ℕ) → Rising (firsts (published slots sockets c t))
+rows-rise slots sockets c t = devices-rise sockets slots c t 0
 
 devices-has :
-    (n : ℕ) (c : List ℕ) (t : Table) (from socket i : ℕ) → from ≤ socket → socket < from + n → slotOf t socket ≡ At i →
-    Has (devicesFrom n c t from) (device c (slotAt t i))
+    (n slots : ℕ) (c t : List ℕ) (from socket : ℕ) (s : Slot) → from ≤ socket → socket < from + n → rowOf slots t socket ≡ some s →
+    Has (devicesFrom n slots c t from) (deviceRow c s)
 unfolding devicesFrom rowBefore
-devices-has zero c t from socket i l m e = absurd (omega arith)
-devices-has (suc n) c t from socket i l m e =
+devices-has zero slots c t from socket s l m e = absurd (omega arith)
+devices-has (suc n) slots c t from socket s l m e =
     ⊎-elim
     (λ (q : from ≡ socket). rw (q, e) (inl refl))
-    (λ (k : from < socket). later (slotOf t from) (devices-has n c t (from + 1) socket i (omega arith) (omega arith) e))
+    (λ (k : from < socket). later (rowOf slots t from) (devices-has n slots c t (from + 1) socket s (omega arith) (omega arith) e))
     (eq-or-lt-of-le l)
   where
-    later : (p : Place) → Has (devicesFrom n c t (from + 1)) (device c (slotAt t i)) → Has (rowBefore c t p (devicesFrom n c t (from + 1))) (device c (slotAt t i))
-    later Nowhere h = h
-    later (At j) h = inr h
+    later :
+        (r : Option Slot) → Has (devicesFrom n slots c t (from + 1)) (deviceRow c s) →
+        Has (rowBefore c r (devicesFrom n slots c t (from + 1))) (deviceRow c s)
+    later option.none h = h
+    later (some u) h = inr h
 
--- LAW: "one row for each seated socket": every device has its row
-pub device-has-row : (c : List ℕ) (t : Table) (i : ℕ) → Lawful c t → i < slotCount → slotAt t i .taken ≡ true → Has (published c t) (device c (slotAt t i))
-device-has-row c t i h l u =
-    devices-has socketCount c t 0 (slotAt t i .socket) i (omega arith) (h .each-slot i l .socket-small u) (own-slot c t i h l u)
+-- LAW: "one row for each seated socket": every socket that is seated has its row
+pub socket-has-row :
+    (slots sockets : ℕ) (c t : List ℕ) (socket : ℕ) (s : Slot) → socket < sockets → rowOf slots t socket ≡ some s →
+    Has (published slots sockets c t) (deviceRow c s)
+socket-has-row slots sockets c t socket s l e = devices-has sockets slots c t 0 socket s (omega arith) (omega arith) e
+
+-- LAW: and so has every device of a lawful table
+pub device-has-row :
+    (slots sockets : ℕ) (c t : List ℕ) (i : ℕ) → Lawful slots sockets c t → i < slots → slotAt t i .taken ≡ true →
+    Has (published slots sockets c t) (deviceRow c (slotAt t i))
+device-has-row slots sockets c t i h l u =
+    socket-has-row slots sockets c t (slotAt t i .socket) (slotAt t i) (h .each-slot i l .socket-small u)
+    (ap (rowAt t) (own-place slots sockets c t i h l u))
 
 -- a row is that of a device
-pub record RowOf (c : List ℕ) (t : Table) (row : Elements) : Type 0 where
+pub record RowOf (slots : ℕ) (c t : List ℕ) (row : Elements) : Type 0 where
   pub slot : ℕ
-  pub within : slot < slotCount
+  pub within : slot < slots
   pub taken : slotAt t slot .taken ≡ true
-  pub is : row ≡ device c (slotAt t slot)
+  pub is : row ≡ deviceRow c (slotAt t slot)
 
-devices-only : (n : ℕ) (c : List ℕ) (t : Table) (socket : ℕ) (row : Elements) → Has (devicesFrom n c t socket) row → RowOf c t row
+devices-only :
+    (n slots : ℕ) (c t : List ℕ) (socket : ℕ) (row : Elements) → Has (devicesFrom n slots c t socket) row → RowOf slots c t row
 unfolding devicesFrom rowBefore
-devices-only zero c t socket row h = absurd h
-devices-only (suc n) c t socket row h = go (slotOf t socket) refl h (devices-only n c t (socket + 1) row)
+devices-only zero slots c t socket row h = absurd h
+devices-only (suc n) slots c t socket row h = go (placeOf slots t socket) refl h (devices-only n slots c t (socket + 1) row)
   where
     go :
-        (p : Place) → slotOf t socket ≡ p → Has (rowBefore c t p (devicesFrom n c t (socket + 1))) row →
-        (Has (devicesFrom n c t (socket + 1)) row → RowOf c t row) → RowOf c t row
+        (p : Place) → placeOf slots t socket ≡ p → Has (rowBefore c (rowAt t p) (devicesFrom n slots c t (socket + 1))) row →
+        (Has (devicesFrom n slots c t (socket + 1)) row → RowOf slots c t row) → RowOf slots c t row
     go Nowhere e h rest = rest h
     go (At i) e h rest =
-        let f = slot-found t socket i e in
+        let f = place-found slots t socket i e in
         ⊎-elim
-        (λ (q : row ≡ device c (slotAt t i)). record { slot = i; within = f .1; taken = holds-parts (slotAt t i) socket (f .0) .0; is = q })
+        (λ (q : row ≡ deviceRow c (slotAt t i)). record { slot = i; within = f .1; taken = holds-parts (slotAt t i) socket (f .0) .0; is = q })
         (λ m. rest m)
         h
 
 -- LAW: and there is no other row
-pub row-is-device : (c : List ℕ) (t : Table) (row : Elements) → Has (published c t) row → RowOf c t row
-row-is-device c t row h = devices-only socketCount c t 0 row h
+pub row-is-device : (slots sockets : ℕ) (c t : List ℕ) (row : Elements) → Has (published slots sockets c t) row → RowOf slots c t row
+row-is-device slots sockets c t row h = devices-only sockets slots c t 0 row h
 
--- LAW: nothing but rows stands in the published list
-pub rows-only : (n : ℕ) (c : List ℕ) (t : Table) (socket : ℕ) → length (firsts (devicesFrom n c t socket)) ≡ count (devicesFrom n c t socket)
+devices-lists : (n slots : ℕ) (c t : List ℕ) (socket : ℕ) → length (firsts (devicesFrom n slots c t socket)) ≡ count (devicesFrom n slots c t socket)
 unfolding devicesFrom rowBefore
-rows-only zero c t socket = refl
-rows-only (suc n) c t socket = go (slotOf t socket) (rows-only n c t (socket + 1))
+devices-lists zero slots c t socket = refl
+devices-lists (suc n) slots c t socket = go (rowOf slots t socket) (devices-lists n slots c t (socket + 1))
   where
     go :
-        (p : Place) → length (firsts (devicesFrom n c t (socket + 1))) ≡ count (devicesFrom n c t (socket + 1)) →
-        length (firsts (rowBefore c t p (devicesFrom n c t (socket + 1)))) ≡ count (rowBefore c t p (devicesFrom n c t (socket + 1)))
-    go Nowhere e = e
-    go (At i) e = ap suc e
+        (r : Option Slot) → length (firsts (devicesFrom n slots c t (socket + 1))) ≡ count (devicesFrom n slots c t (socket + 1)) →
+        length (firsts (rowBefore c r (devicesFrom n slots c t (socket + 1)))) ≡ count (rowBefore c r (devicesFrom n slots c t (socket + 1)))
+    go option.none e = e
+    go (some s) e = ap suc e
 
--- LAW: a device's row depends on its slot and the catalogue alone
+-- LAW: nothing but rows stands in the published list
+pub rows-only : (slots sockets : ℕ) (c t : List ℕ) → length (firsts (published slots sockets c t)) ≡ count (published slots sockets c t)
+rows-only slots sockets c t = devices-lists sockets slots c t 0
+
+-- ONE SOCKET'S ROW
+listed-past : (n slots : ℕ) (c t : List ℕ) (from socket : ℕ) → socket < from → listOf (devicesFrom n slots c t from) socket ≡ option.none
+unfolding devicesFrom rowBefore deviceRow
+listed-past zero slots c t from socket l = refl
+listed-past (suc n) slots c t from socket l = go (placeOf slots t from) refl (listed-past n slots c t (from + 1) socket (omega arith))
+  where
+    go :
+        (p : Place) → placeOf slots t from ≡ p → listOf (devicesFrom n slots c t (from + 1)) socket ≡ option.none →
+        listOf (rowBefore c (rowAt t p) (devicesFrom n slots c t (from + 1))) socket ≡ option.none
+    go Nowhere e h = h
+    go (At i) e h = let q = row-socket slots t from i e in rw (ne-eqb (slotAt t i .socket) socket (λ f. omega arith)) h
+
+listed-here :
+    (n slots : ℕ) (c t : List ℕ) (socket : ℕ) → listOf (devicesFrom (suc n) slots c t socket) socket ≡ Option·map (deviceRow c) (rowOf slots t socket)
+unfolding devicesFrom rowBefore deviceRow
+listed-here n slots c t socket = go (placeOf slots t socket) refl
+  where
+    go :
+        (p : Place) → placeOf slots t socket ≡ p →
+        listOf (rowBefore c (rowAt t p) (devicesFrom n slots c t (socket + 1))) socket ≡ Option·map (deviceRow c) (rowAt t p)
+    go Nowhere e = listed-past n slots c t (socket + 1) socket (omega arith)
+    go (At i) e = rw (eq-eqb (slotAt t i .socket) socket (row-socket slots t socket i e))
+
+listed :
+    (n slots : ℕ) (c t : List ℕ) (from socket : ℕ) → from ≤ socket → socket < from + n →
+    listOf (devicesFrom n slots c t from) socket ≡ Option·map (deviceRow c) (rowOf slots t socket)
+unfolding devicesFrom rowBefore deviceRow
+listed zero slots c t from socket l m = absurd (omega arith)
+listed (suc n) slots c t from socket l m =
+    ⊎-elim
+    (λ (q : from ≡ socket). rw q (listed-here n slots c t socket))
+    (λ (k : from < socket). later k (placeOf slots t from) refl (listed n slots c t (from + 1) socket (omega arith) (omega arith)))
+    (eq-or-lt-of-le l)
+  where
+    later :
+        from < socket → (p : Place) → placeOf slots t from ≡ p →
+        listOf (devicesFrom n slots c t (from + 1)) socket ≡ Option·map (deviceRow c) (rowOf slots t socket) →
+        listOf (rowBefore c (rowAt t p) (devicesFrom n slots c t (from + 1))) socket ≡ Option·map (deviceRow c) (rowOf slots t socket)
+    later k Nowhere e h = h
+    later k (At i) e h = let q = row-socket slots t from i e in rw (ne-eqb (slotAt t i .socket) socket (λ f. omega arith)) h
+
+-- LAW: the row that is published for a socket is made of that socket's row in the table, and there is none where it has none
+pub row-published :
+    (slots sockets : ℕ) (c t : List ℕ) (socket : ℕ) → socket < sockets →
+    listOf (published slots sockets c t) socket ≡ Option·map (deviceRow c) (rowOf slots t socket)
+row-published slots sockets c t socket l = listed sockets slots c t 0 socket (omega arith) (omega arith)
+
+-- LAW: so it depends on that row and the catalogue alone: whatever else two tables hold, it is the same
 pub row-alone :
-    (c : List ℕ) (t u : Table) (socket i j : ℕ) (rest : Elements) → slotOf t socket ≡ At i → slotOf u socket ≡ At j → slotAt t i ≡ slotAt u j →
-    rowBefore c t (slotOf t socket) rest ≡ rowBefore c u (slotOf u socket) rest
-unfolding rowBefore
-row-alone c t u socket i j rest e f s = rw (e, f, s)
+    (slots sockets : ℕ) (c t u : List ℕ) (socket : ℕ) → socket < sockets → rowOf slots t socket ≡ rowOf slots u socket →
+    listOf (published slots sockets c t) socket ≡ listOf (published slots sockets c u) socket
+row-alone slots sockets c t u socket l e =
+    row-published slots sockets c t socket l ∙ ap (Option·map (deviceRow c)) e ∙ sym (row-published slots sockets c u socket l)
+
+devices-same :
+    (n slots : ℕ) (c t u : List ℕ) (from : ℕ) → ((socket : ℕ) → from ≤ socket → socket < from + n → rowOf slots t socket ≡ rowOf slots u socket) →
+    devicesFrom n slots c t from ≡ devicesFrom n slots c u from
+unfolding devicesFrom
+devices-same zero slots c t u from h = refl
+devices-same (suc n) slots c t u from h =
+    ap (λ r. rowBefore c r (devicesFrom n slots c t (from + 1))) (h from (omega arith) (omega arith))
+    ∙ ap (rowBefore c (rowOf slots u from)) (devices-same n slots c t u (from + 1) (λ socket l m. h socket (omega arith) (omega arith)))
+
+-- LAW: and the published list on the sockets' rows alone, wherever in the table they stand
+pub published-same :
+    (slots sockets : ℕ) (c t u : List ℕ) → ((socket : ℕ) → socket < sockets → rowOf slots t socket ≡ rowOf slots u socket) →
+    published slots sockets c t ≡ published slots sockets c u
+published-same slots sockets c t u h = devices-same sockets slots c t u 0 (λ socket l m. h socket (omega arith))
 
 -- PARAMETERS
 parameters-above : (n : ℕ) (c : List ℕ) (s : Slot) (p j : ℕ) → j < p → Above j (firsts (parametersFrom n c s p))

@@ -3,6 +3,8 @@ use Prim.Native.Nat.{ℕ, zero, suc, _+_, _-_, _/_, _%_, _≤_, _<_}
 use mathlib.Core.Path.{_≡_, refl, sym, ap, subst, _∙_}
 use mathlib.Core.Bool.{true, false}
 use mathlib.Core.List.{List, [], _++_, append-nil}
+use mathlib.Core.Option as option
+use mathlib.Core.Option.{Option, some}
 use native.Mathlib.Omega.{arith}
 use native.Mathlib.Nat.{zero-add}
 use lib.ListN.{length, getD, length-append}
@@ -23,15 +25,26 @@ use Rattle.catalogue.specs.declared.Parameter.{Parameter}
 use Rattle.catalogue.proofs.Bytes.{kind-is}
 use Rattle.value.specs.Meaning.{valueOf}
 use Rattle.value.specs.declared.Value.{Value}
-use Rattle.table.specs.Slots.{paramCount, socketCount, slotAt, slotOf}
-use Rattle.table.specs.Lawful.{presentAt, bitsAt}
-use Rattle.table.specs.declared.Slot.{Slot}
-use Rattle.table.specs.declared.Table.{Table}
-use Rattle.table.specs.declared.Place.{Place}
-use Rattle.table.specs.declared.Place.the-variants.{At, Nowhere}
+use Rattle.slot.specs.Slot.{paramCount, presentAt, bitsAt}
+use Rattle.slot.specs.Row.{uidSize}
+use Rattle.slot.specs.declared.Slot.{Slot}
+use Rattle.table.specs.Places.{rowOf}
 use Rattle.publish.specs.Put.{Put, front}
-use Rattle.publish.specs.Published.{double, elementOf, heldValue, pair, parametersFrom, device, rowBefore, devicesFrom, published}
+use Rattle.publish.specs.Published.{double, elementOf, heldValue, pair, parametersFrom, deviceRow, rowBefore, devicesFrom, published}
 use Rattle.publish.proofs.Stores.{put-as, put-before}
+
+-- the bytes of the list before its rows, of a row before its parameters, and of a parameter: a NetInt, or a NetFloat
+abbrev pub listFront : ℕ
+listFront = 8
+
+abbrev pub rowFront : ℕ
+rowFront = 40
+
+abbrev pub intSize : ℕ
+intSize = 16
+
+abbrev pub floatSize : ℕ
+floatSize = 28
 
 -- a parameter that becomes a NetInt: a typed list
 pub int-pair : (p x : ℕ) → elementBytes listCode (list (pair p (int x)) none) ≡ (number (typedCode kinds.Int) ++ number 2) ++ (number p ++ number x)
@@ -47,10 +60,10 @@ pub double-pair :
 unfolding codeFor
 double-pair p x = refl
 
-pub int-size : (p x : ℕ) (v : tree.Value) → v ≡ int x → length (elementBytes listCode (list (pair p v) none)) ≡ 16
+pub int-size : (p x : ℕ) (v : tree.Value) → v ≡ int x → length (elementBytes listCode (list (pair p v) none)) ≡ intSize
 int-size p x v e = ap (λ (u : tree.Value). length (elementBytes listCode (list (pair p u) none))) e ∙ ap length (int-pair p x)
 
-pub double-size : (p x : ℕ) (v : tree.Value) → v ≡ double x → length (elementBytes listCode (list (pair p v) none)) ≡ 28
+pub double-size : (p x : ℕ) (v : tree.Value) → v ≡ double x → length (elementBytes listCode (list (pair p v) none)) ≡ floatSize
 double-size p x v e = ap (λ (u : tree.Value). length (elementBytes listCode (list (pair p u) none))) e ∙ ap length (double-pair p x)
 
 pub put-value :
@@ -77,24 +90,24 @@ row-code a b bs es = go (code-is (value (int a) (value (int b) (value (blob bs) 
 
 pub device-bytes :
     (c : List ℕ) (s : Slot) →
-    elementBytes listCode (list (device c s) none) ≡
+    elementBytes listCode (list (deviceRow c s) none) ≡
     front s (count (parametersFrom paramCount c s 0)) ++ elementBytes listCode (parametersFrom paramCount c s 0)
-unfolding device front
+unfolding deviceRow front
 device-bytes c s =
     let ps = parametersFrom paramCount c s 0 in
-    let row = value (int (s .socket)) (value (int (s .device)) (value (blob (leBytes 8 (s .uid))) ps)) in
+    let row = value (int (s .socket)) (value (int (s .device)) (value (blob (leBytes uidSize (s .uid))) ps)) in
     let n : count row ≡ 3 + count ps = omega arith in
-    ap (λ (code : ℕ). number code ++ (number (count row) ++ (elementBytes code row ++ []))) (row-code (s .socket) (s .device) (leBytes 8 (s .uid)) ps)
+    ap (λ (code : ℕ). number code ++ (number (count row) ++ (elementBytes code row ++ []))) (row-code (s .socket) (s .device) (leBytes uidSize (s .uid)) ps)
     ∙ ap (λ (k : ℕ). number listCode ++ (number k ++ (elementBytes listCode row ++ []))) n
     ∙ ap (λ (bytes : List ℕ). front s (count ps) ++ bytes) (append-nil (elementBytes listCode ps))
 
-front-size : (s : Slot) (held : ℕ) → length (front s held) ≡ 40
+front-size : (s : Slot) (held : ℕ) → length (front s held) ≡ rowFront
 unfolding front
 front-size s held = refl
 
 pub device-size :
     (c : List ℕ) (s : Slot) →
-    length (elementBytes listCode (list (device c s) none)) ≡ 40 + length (elementBytes listCode (parametersFrom paramCount c s 0))
+    length (elementBytes listCode (list (deviceRow c s) none)) ≡ rowFront + length (elementBytes listCode (parametersFrom paramCount c s 0))
 device-size c s =
     let ps = parametersFrom paramCount c s 0 in
     ap length (device-bytes c s) ∙ length-append (front s (count ps)) (elementBytes listCode ps)
@@ -103,13 +116,13 @@ device-size c s =
 -- the parameters are put first, and the front of the row before them
 pub device-put :
     {l m n : List ℕ} {at end held : ℕ} (c : List ℕ) (s : Slot) →
-    Put l (at + 40) (elementBytes listCode (parametersFrom paramCount c s 0)) m end → held ≡ count (parametersFrom paramCount c s 0) →
-    n ≡ sets m at (front s held) → Put l at (elementBytes listCode (list (device c s) none)) n end
+    Put l (at + rowFront) (elementBytes listCode (parametersFrom paramCount c s 0)) m end → held ≡ count (parametersFrom paramCount c s 0) →
+    n ≡ sets m at (front s held) → Put l at (elementBytes listCode (list (deviceRow c s) none)) n end
 device-put {l} {m} {n} {at} {end} {held} c s p h e =
     let ps = parametersFrom paramCount c s 0 in
-    let size : at + 40 ≡ at + length (front s (count ps)) = ap (λ (k : ℕ). at + k) (sym (front-size s (count ps))) in
+    let size : at + rowFront ≡ at + length (front s (count ps)) = ap (λ (k : ℕ). at + k) (sym (front-size s (count ps))) in
     put-as (sym (device-bytes c s))
-    (put-before l at (at + 40) (front s (count ps)) (elementBytes listCode ps) size p (e ∙ ap (λ (k : ℕ). sets m at (front s k)) h))
+    (put-before l at (at + rowFront) (front s (count ps)) (elementBytes listCode ps) size p (e ∙ ap (λ (k : ℕ). sets m at (front s k)) h))
 
 -- the bytes of a device type that was found by its number
 pub bytes-of :
@@ -142,20 +155,20 @@ parameters-end c s p h = let n : paramCount - p ≡ 0 = omega arith in rw n
 
 -- the sockets from one on: it has a device, or it has none
 pub devices-at :
-    (c : List ℕ) (t : Table) (socket i : ℕ) → socket < socketCount → slotOf t socket ≡ At i →
-    devicesFrom (socketCount - socket) c t socket ≡ list (device c (slotAt t i)) (devicesFrom (socketCount - (socket + 1)) c t (socket + 1))
+    (sockets slots : ℕ) (c t : List ℕ) (socket : ℕ) (s : Slot) → socket < sockets → rowOf slots t socket ≡ some s →
+    devicesFrom (sockets - socket) slots c t socket ≡ list (deviceRow c s) (devicesFrom (sockets - (socket + 1)) slots c t (socket + 1))
 unfolding devicesFrom rowBefore
-devices-at c t socket i h e = let n : socketCount - socket ≡ suc (socketCount - (socket + 1)) = omega arith in rw (n, e)
+devices-at sockets slots c t socket s h e = let n : sockets - socket ≡ suc (sockets - (socket + 1)) = omega arith in rw (n, e)
 
 pub devices-nowhere :
-    (c : List ℕ) (t : Table) (socket : ℕ) → socket < socketCount → slotOf t socket ≡ Nowhere →
-    devicesFrom (socketCount - socket) c t socket ≡ devicesFrom (socketCount - (socket + 1)) c t (socket + 1)
+    (sockets slots : ℕ) (c t : List ℕ) (socket : ℕ) → socket < sockets → rowOf slots t socket ≡ option.none →
+    devicesFrom (sockets - socket) slots c t socket ≡ devicesFrom (sockets - (socket + 1)) slots c t (socket + 1)
 unfolding devicesFrom rowBefore
-devices-nowhere c t socket h e = let n : socketCount - socket ≡ suc (socketCount - (socket + 1)) = omega arith in rw (n, e)
+devices-nowhere sockets slots c t socket h e = let n : sockets - socket ≡ suc (sockets - (socket + 1)) = omega arith in rw (n, e)
 
-pub devices-end : (c : List ℕ) (t : Table) (socket : ℕ) → socketCount ≤ socket → devicesFrom (socketCount - socket) c t socket ≡ none
+pub devices-end : (sockets slots : ℕ) (c t : List ℕ) (socket : ℕ) → sockets ≤ socket → devicesFrom (sockets - socket) slots c t socket ≡ none
 unfolding devicesFrom
-devices-end c t socket h = let n : socketCount - socket ≡ 0 = omega arith in rw n
+devices-end sockets slots c t socket h = let n : sockets - socket ≡ 0 = omega arith in rw n
 
 -- a list of lists carries no kind
 lists-code : (inner rest : Elements) → listCodeOf (list inner rest) ≡ listCode
@@ -165,34 +178,41 @@ lists-code inner rest = go (code-is (list inner rest))
     go (mixed e) = e
     go (typed k e a) = absurd a
 
-devices-code : (n : ℕ) (c : List ℕ) (t : Table) (socket : ℕ) → listCodeOf (devicesFrom n c t socket) ≡ listCode
+devices-code : (n slots : ℕ) (c t : List ℕ) (socket : ℕ) → listCodeOf (devicesFrom n slots c t socket) ≡ listCode
 unfolding devicesFrom rowBefore
-devices-code zero c t socket = code-none
-devices-code (suc n) c t socket = go (slotOf t socket) (devices-code n c t (socket + 1))
+devices-code zero slots c t socket = code-none
+devices-code (suc n) slots c t socket = go (rowOf slots t socket) (devices-code n slots c t (socket + 1))
   where
-    go : (p : Place) → listCodeOf (devicesFrom n c t (socket + 1)) ≡ listCode → listCodeOf (rowBefore c t p (devicesFrom n c t (socket + 1))) ≡ listCode
-    go Nowhere e = e
-    go (At i) e = lists-code (device c (slotAt t i)) (devicesFrom n c t (socket + 1))
+    go :
+        (s : Option Slot) → listCodeOf (devicesFrom n slots c t (socket + 1)) ≡ listCode →
+        listCodeOf (rowBefore c s (devicesFrom n slots c t (socket + 1))) ≡ listCode
+    go option.none e = e
+    go (some s) e = lists-code (deviceRow c s) (devicesFrom n slots c t (socket + 1))
 
 pub published-bytes :
-    (c : List ℕ) (t : Table) →
-    listBytes (published c t) ≡ (number listCode ++ number (count (published c t))) ++ elementBytes listCode (published c t)
+    (slots sockets : ℕ) (c t : List ℕ) →
+    listBytes (published slots sockets c t) ≡
+    (number listCode ++ number (count (published slots sockets c t))) ++ elementBytes listCode (published slots sockets c t)
 unfolding listBytes
-published-bytes c t =
-    ap (λ (code : ℕ). number code ++ (number (count (published c t)) ++ elementBytes code (published c t))) (devices-code socketCount c t 0)
+published-bytes slots sockets c t =
+    let es = published slots sockets c t in
+    ap (λ (code : ℕ). number code ++ (number (count es) ++ elementBytes code es)) (devices-code sockets slots c t 0)
 
-pub published-length : (c : List ℕ) (t : Table) → length (listBytes (published c t)) ≡ 8 + length (elementBytes listCode (published c t))
-published-length c t = ap length (published-bytes c t) ∙ omega arith
+pub published-length :
+    (slots sockets : ℕ) (c t : List ℕ) →
+    length (listBytes (published slots sockets c t)) ≡ listFront + length (elementBytes listCode (published slots sockets c t))
+published-length slots sockets c t = ap length (published-bytes slots sockets c t) ∙ omega arith
 
 -- the rows are put first, and the front of the list before them
 pub published-put :
-    {l m n : List ℕ} {end rows : ℕ} (c : List ℕ) (t : Table) → length (listBytes (published c t)) ≤ length l →
-    Put l 8 (elementBytes listCode (published c t)) m end → rows ≡ count (published c t) → n ≡ sets m 0 (number listCode ++ number rows) →
-    (n ≡ over (listBytes (published c t)) l) × (end ≡ length (listBytes (published c t)))
-published-put {l} {m} {n} {end} {rows} c t room p h e =
-    let es = published c t in
+    {l m n : List ℕ} {end rows : ℕ} (slots sockets : ℕ) (c t : List ℕ) → length (listBytes (published slots sockets c t)) ≤ length l →
+    Put l listFront (elementBytes listCode (published slots sockets c t)) m end → rows ≡ count (published slots sockets c t) →
+    n ≡ sets m 0 (number listCode ++ number rows) →
+    (n ≡ over (listBytes (published slots sockets c t)) l) × (end ≡ length (listBytes (published slots sockets c t)))
+published-put {l} {m} {n} {end} {rows} slots sockets c t room p h e =
+    let es = published slots sockets c t in
     let q : Put l 0 (listBytes es) n end =
-    put-as (sym (published-bytes c t))
-    (put-before l 0 8 (number listCode ++ number (count es)) (elementBytes listCode es) refl p
+    put-as (sym (published-bytes slots sockets c t))
+    (put-before l 0 listFront (number listCode ++ number (count es)) (elementBytes listCode es) refl p
     (e ∙ ap (λ (k : ℕ). sets m 0 (number listCode ++ number k)) h)) in
     (q .stored ∙ sets-front l (listBytes es) room, q .behind ∙ zero-add (length (listBytes es)))

@@ -1,8 +1,10 @@
--- The published list never passes 3,752 bytes: at most four sockets are seated, since each is seated in a slot of its own.
+-- The size of the published list: each socket is seated in a slot of its own, so there are at most as many rows as slots.
 use Prim.Native.Nat.{ℕ, zero, suc, _+_, _*_, _≤_, _<_}
 use mathlib.Core.Path.{_≡_, refl, ap, _∙_}
 use mathlib.Core.Bool.{Bool, true, false, cond, _&&_}
 use mathlib.Core.List.{List}
+use mathlib.Core.Option as option
+use mathlib.Core.Option.{Option, some}
 use native.Mathlib.Omega.{arith}
 use lib.ListN.{length, length-append}
 use borrow.Author.Tests.{ne-eqb}
@@ -11,33 +13,33 @@ use Rattle.list.specs.Tree.{none, list, count}
 use Rattle.list.specs.Bytes.{elementBytes, listBytes}
 use Rattle.value.specs.declared.Value.{Value}
 use Rattle.value.specs.declared.Value.the-variants as values
-use Rattle.table.specs.Slots.{slotCount, socketCount, paramCount, slotAt, holds, slotFrom, slotOf}
-use Rattle.table.specs.Lawful.{presentAt}
-use Rattle.table.specs.declared.Slot.{Slot}
-use Rattle.table.specs.declared.Table.{Table}
+use Rattle.slot.specs.Slot.{paramCount, presentAt}
+use Rattle.slot.specs.Rows.{slotAt}
+use Rattle.slot.specs.declared.Slot.{Slot}
+use Rattle.table.specs.Places.{slotCount, socketCount, holds, placeFrom, placeOf, rowAt, rowOf}
 use Rattle.table.specs.declared.Place.{Place}
 use Rattle.table.specs.declared.Place.the-variants.{At, Nowhere}
-use Rattle.table.proofs.Places.{holds-parts}
-use Rattle.publish.specs.Published.{elementOf, heldValue, pair, listIf, parametersFrom, device, rowBefore, devicesFrom, published}
-use Rattle.publish.proofs.Pieces.{int-size, double-size, list-bytes, device-size, published-length}
+use Rattle.table.proofs.Searches.{holds-parts}
+use Rattle.publish.specs.Published.{elementOf, heldValue, pair, listIf, parametersFrom, deviceRow, rowBefore, devicesFrom, published}
+use Rattle.publish.proofs.Pieces.{listFront, rowFront, floatSize, int-size, double-size, list-bytes, device-size, published-length}
 
--- a parameter takes at most 28 bytes
-pair-size : (p : ℕ) (v : Value) → length (elementBytes listCode (list (pair p (elementOf v)) none)) ≤ 28
+-- a parameter takes at most the bytes of a NetFloat's
+pair-size : (p : ℕ) (v : Value) → length (elementBytes listCode (list (pair p (elementOf v)) none)) ≤ floatSize
 unfolding elementOf
 pair-size p (values.Int z) = omega (arith, int-size p _ (elementOf (values.Int z)) refl)
 pair-size p (values.Float x) = omega (arith, double-size p _ (elementOf (values.Float x)) refl)
 pair-size p (values.Bool b) = omega (arith, int-size p _ (elementOf (values.Bool b)) refl)
 pair-size p (values.Nan b) = omega (arith, double-size p _ (elementOf (values.Nan b)) refl)
 
-parameters-size : (n : ℕ) (c : List ℕ) (s : Slot) (p : ℕ) → length (elementBytes listCode (parametersFrom n c s p)) ≤ 28 * n
+parameters-size : (n : ℕ) (c : List ℕ) (s : Slot) (p : ℕ) → length (elementBytes listCode (parametersFrom n c s p)) ≤ n * floatSize
 unfolding parametersFrom
 parameters-size zero c s p = omega arith
 parameters-size (suc n) c s p = go (presentAt s p) (parameters-size n c s (p + 1))
   where
     go :
-        (b : Bool) → length (elementBytes listCode (parametersFrom n c s (p + 1))) ≤ 28 * n →
+        (b : Bool) → length (elementBytes listCode (parametersFrom n c s (p + 1))) ≤ n * floatSize →
         length (elementBytes listCode (listIf b (pair p (elementOf (heldValue c s p))) (parametersFrom n c s (p + 1)))) ≤
-        28 * suc n
+        suc n * floatSize
     go false h = omega arith
     go true h =
         let one = list (pair p (elementOf (heldValue c s p))) none in
@@ -45,26 +47,32 @@ parameters-size (suc n) c s p = go (presentAt s p) (parameters-size n c s (p + 1
         let e = ap length (list-bytes (pair p (elementOf (heldValue c s p))) rest) ∙ length-append (elementBytes listCode one) (elementBytes listCode rest) in
         omega (arith, e, pair-size p (heldValue c s p))
 
--- a device's row takes at most 936 bytes
-pub row-size : (c : List ℕ) (s : Slot) → length (elementBytes listCode (list (device c s) none)) ≤ 936
+-- the bytes of a row whose parameters are all held, each a NetFloat
+abbrev pub rowMost : ℕ
+rowMost = rowFront + paramCount * floatSize
+
+-- LAW: no row has more
+pub row-size : (c : List ℕ) (s : Slot) → length (elementBytes listCode (list (deviceRow c s) none)) ≤ rowMost
 row-size c s = omega (arith, device-size c s, parameters-size paramCount c s 0)
 
 devices-size :
-    (n : ℕ) (c : List ℕ) (t : Table) (socket : ℕ) →
-    length (elementBytes listCode (devicesFrom n c t socket)) ≤ 936 * count (devicesFrom n c t socket)
+    (n slots : ℕ) (c t : List ℕ) (socket : ℕ) →
+    length (elementBytes listCode (devicesFrom n slots c t socket)) ≤ count (devicesFrom n slots c t socket) * rowMost
 unfolding devicesFrom rowBefore
-devices-size zero c t socket = omega arith
-devices-size (suc n) c t socket = go (slotOf t socket) (devices-size n c t (socket + 1))
+devices-size zero slots c t socket = omega arith
+devices-size (suc n) slots c t socket = go (rowOf slots t socket) (devices-size n slots c t (socket + 1))
   where
     go :
-        (p : Place) → length (elementBytes listCode (devicesFrom n c t (socket + 1))) ≤ 936 * count (devicesFrom n c t (socket + 1)) →
-        length (elementBytes listCode (rowBefore c t p (devicesFrom n c t (socket + 1)))) ≤ 936 * count (rowBefore c t p (devicesFrom n c t (socket + 1)))
-    go Nowhere h = h
-    go (At i) h =
-        let row = device c (slotAt t i) in
-        let rest = devicesFrom n c t (socket + 1) in
+        (r : Option Slot) →
+        length (elementBytes listCode (devicesFrom n slots c t (socket + 1))) ≤ count (devicesFrom n slots c t (socket + 1)) * rowMost →
+        length (elementBytes listCode (rowBefore c r (devicesFrom n slots c t (socket + 1)))) ≤
+        count (rowBefore c r (devicesFrom n slots c t (socket + 1))) * rowMost
+    go option.none h = h
+    go (some s) h =
+        let row = deviceRow c s in
+        let rest = devicesFrom n slots c t (socket + 1) in
         let e = ap length (list-bytes row rest) ∙ length-append (elementBytes listCode (list row none)) (elementBytes listCode rest) in
-        omega (arith, e, row-size c (slotAt t i))
+        omega (arith, e, row-size c s)
 
 -- SOCKETS AND SLOTS
 -- f at the n numbers from k on, added up
@@ -118,39 +126,46 @@ holds-once (suc n) s k = go (holds s k) refl (holds-once n s (k + 1))
     go false e h = omega arith
 
 -- sockets are seated in at most as many slots as are searched
-slots-hold : (m n : ℕ) (t : Table) (k i : ℕ) → sum n (λ j. seated (slotFrom m t j i)) k ≤ m
-unfolding slotFrom seated one
+slots-hold : (m n : ℕ) (t : List ℕ) (k i : ℕ) → sum n (λ j. seated (placeFrom m t j i)) k ≤ m
+unfolding placeFrom seated one
 slots-hold zero n t k i = omega (arith, sum-none n k)
 slots-hold (suc m) n t k i =
     let f : ℕ → ℕ = λ j. one (holds (slotAt t i) j) in
-    let g : ℕ → ℕ = λ j. seated (slotFrom m t j (i + 1)) in
+    let g : ℕ → ℕ = λ j. seated (placeFrom m t j (i + 1)) in
     omega (
       arith,
-      sum-below n (λ j. seated (slotFrom (suc m) t j i)) (λ j. f j + g j) k (λ j. step j (holds (slotAt t i) j)),
+      sum-below n (λ j. seated (placeFrom (suc m) t j i)) (λ j. f j + g j) k (λ j. step j (holds (slotAt t i) j)),
       sum-both n f g k,
       holds-once n (slotAt t i) k,
       slots-hold m n t k (i + 1),
     )
   where
-    step : (j : ℕ) (b : Bool) → seated (cond b (At i) (slotFrom m t j (i + 1))) ≤ one b + seated (slotFrom m t j (i + 1))
+    step : (j : ℕ) (b : Bool) → seated (cond b (At i) (placeFrom m t j (i + 1))) ≤ one b + seated (placeFrom m t j (i + 1))
     step j true = omega arith
     step j false = omega arith
 
-count-is : (n : ℕ) (c : List ℕ) (t : Table) (socket : ℕ) → count (devicesFrom n c t socket) ≡ sum n (λ j. seated (slotOf t j)) socket
+count-is :
+    (n slots : ℕ) (c t : List ℕ) (socket : ℕ) → count (devicesFrom n slots c t socket) ≡ sum n (λ j. seated (placeOf slots t j)) socket
 unfolding devicesFrom rowBefore sum seated
-count-is zero c t socket = refl
-count-is (suc n) c t socket = go (slotOf t socket) (count-is n c t (socket + 1))
+count-is zero slots c t socket = refl
+count-is (suc n) slots c t socket = go (placeOf slots t socket) (count-is n slots c t (socket + 1))
   where
     go :
-        (p : Place) → count (devicesFrom n c t (socket + 1)) ≡ sum n (λ j. seated (slotOf t j)) (socket + 1) →
-        count (rowBefore c t p (devicesFrom n c t (socket + 1))) ≡ seated p + sum n (λ j. seated (slotOf t j)) (socket + 1)
+        (p : Place) → count (devicesFrom n slots c t (socket + 1)) ≡ sum n (λ j. seated (placeOf slots t j)) (socket + 1) →
+        count (rowBefore c (rowAt t p) (devicesFrom n slots c t (socket + 1))) ≡
+        seated p + sum n (λ j. seated (placeOf slots t j)) (socket + 1)
     go Nowhere e = e ∙ omega arith
     go (At i) e = omega arith
 
--- LAW: at most four sockets are seated
-pub at-most-four : (c : List ℕ) (t : Table) → count (published c t) ≤ slotCount
-at-most-four c t = omega (arith, count-is socketCount c t 0, slots-hold slotCount socketCount t 0 0)
+-- LAW: no more sockets are seated than there are slots
+pub rows-at-most : (slots sockets : ℕ) (c t : List ℕ) → count (published slots sockets c t) ≤ slots
+rows-at-most slots sockets c t = omega (arith, count-is sockets slots c t 0, slots-hold slots sockets t 0 0)
+
+-- LAW: the published list has at most its front and a row for each slot
+pub published-most : (slots sockets : ℕ) (c t : List ℕ) → length (listBytes (published slots sockets c t)) ≤ listFront + slots * rowMost
+published-most slots sockets c t =
+    omega (arith, published-length slots sockets c t, devices-size sockets slots c t 0, rows-at-most slots sockets c t)
 
 -- LAW: "It never passes 3,752 bytes"
-pub published-size : (c : List ℕ) (t : Table) → length (listBytes (published c t)) ≤ 3752
-published-size c t = omega (arith, published-length c t, devices-size socketCount c t 0, at-most-four c t)
+pub published-size : (c t : List ℕ) → length (listBytes (published slotCount socketCount c t)) ≤ 3752
+published-size c t = published-most slotCount socketCount c t

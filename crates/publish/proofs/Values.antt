@@ -15,10 +15,11 @@ use mir.ValLaws.{ofZ-toZ}
 use Rattle.list.specs.Tree.{int}
 use Rattle.list.specs.Legal.{LegalValue}
 use Rattle.catalogue.specs.Format.{kindInt, kindFloat, kindBool}
-use Rattle.value.specs.Meaning.{signOf, lowOf, infinity, valueOf, widened}
+use Rattle.value.specs.Meaning.{intOf, signOf, lowOf, infinity, valueOf, widened}
 use Rattle.value.specs.declared.Value.the-variants as values
-use Rattle.value.proofs.Floats.{infinities}
+use Rattle.value.proofs.Floats.{infinities, not-isnan}
 use Rattle.publish.specs.Published.{double, elementOf}
+use Rattle.publish.specs.Put.{NoNan}
 
 -- LAW: "INT .. become NetInt": the same 32 bits
 pub int-published : (bits : ℕ) → bits < 2 ^ 32 → elementOf (valueOf kindInt bits) ≡ int bits
@@ -80,3 +81,16 @@ element-legal kind bits h = go (eqb kind kindInt) refl (eqb kind kindFloat) refl
         let w = widened-fits bits h in
         rw (q, float-published bits h) (omega arith, omega arith)
     go false e false f = rw (e, f) (flag-legal (eqb bits 1))
+
+-- the float of a value that is read from bits is no NaN
+pub no-nan : (kind bits : ℕ) → NoNan (valueOf kind bits)
+unfolding NoNan
+no-nan kind bits = go (eqb kind kindInt) (eqb kind kindFloat) (leb (lowOf bits) infinity) refl
+  where
+    go :
+        (x y z : Bool) → leb (lowOf bits) infinity ≡ z →
+        NoNan (cond x (values.Int (intOf bits)) (cond y (cond z (values.Float (ofBits binary32 bits)) (values.Nan bits)) (values.Bool (eqb bits 1))))
+    go true y z e = tt
+    go false false z e = tt
+    go false true false e = tt
+    go false true true e = not-isnan bits (leb-true (lowOf bits) infinity e)

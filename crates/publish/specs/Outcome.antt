@@ -1,4 +1,4 @@
--- Publishing ("Posting: 11, 9, 20").
+-- Writing the table as a list ("Posting: 11, 9, 20"): 20, where 11 and 9 are ruled out.
 use Prim.Native.Nat.{ℕ}
 use mathlib.Core.Bool.{cond}
 use mathlib.Core.List.{List}
@@ -7,9 +7,7 @@ use lib.ListN.{length}
 use Rattle.wire.specs.Area.{over}
 use Rattle.list.specs.Limits.{listLimit}
 use Rattle.list.specs.Bytes.{listBytes}
-use Rattle.catalogue.specs.Format.{legal}
-use Rattle.table.specs.Lawful.{lawful}
-use Rattle.table.specs.declared.Table.{Table}
+use Rattle.table.specs.Places.{slotCount, socketCount}
 use Rattle.publish.specs.declared.Published.{Published}
 use Rattle.publish.specs.declared.Published.the-variants.{Written, Refused}
 use Rattle.publish.specs.Published.{published}
@@ -37,11 +35,7 @@ refusal number buffer = record { result = refused number; buffer = buffer }
 abbrev pub writing : List ℕ → List ℕ → Publishing
 writing bytes buffer = record { result = written (length bytes); buffer = over bytes buffer }
 
--- "catalogue not as above", "table not lawful", "list area .. under 4,096", else the list's bytes
-unfoldable pub publishOf : List ℕ → Table → List ℕ → Publishing
-publishOf c t buffer =
-    cond (legal c)
-    (cond (lawful c t)
-    (cond (ltb (length buffer) listLimit) (refusal 20 buffer) (writing (listBytes (published c t)) buffer))
-    (refusal 9 buffer))
-    (refusal 11 buffer)
+-- "list area .. under 4,096", else the list's bytes
+unfoldable pub writtenOf : List ℕ → List ℕ → List ℕ → Publishing
+writtenOf c t buffer =
+    cond (ltb (length buffer) listLimit) (refusal 20 buffer) (writing (listBytes (published slotCount socketCount c t)) buffer)

@@ -2,6 +2,8 @@
 use Prim.Native.Nat.{ℕ, zero, suc, _+_, _/_, _%_}
 use mathlib.Core.Bool.{Bool, true, false, cond}
 use mathlib.Core.List.{List}
+use mathlib.Core.Option as option
+use mathlib.Core.Option.{Option, some}
 use lib.Ieee.{binary64, toBits}
 use mir.Syntax.{w32}
 use mir.Val.{ofZ}
@@ -12,12 +14,10 @@ use Rattle.catalogue.specs.Lookup.{parameterOf}
 use Rattle.value.specs.Meaning.{valueOf, widened}
 use Rattle.value.specs.declared.Value.{Value}
 use Rattle.value.specs.declared.Value.the-variants as values
-use Rattle.table.specs.Slots.{socketCount, paramCount, slotAt, slotOf}
-use Rattle.table.specs.Lawful.{presentAt, bitsAt}
-use Rattle.table.specs.declared.Slot.{Slot}
-use Rattle.table.specs.declared.Table.{Table}
-use Rattle.table.specs.declared.Place.{Place}
-use Rattle.table.specs.declared.Place.the-variants.{At, Nowhere}
+use Rattle.slot.specs.Slot.{paramCount, presentAt, bitsAt}
+use Rattle.slot.specs.Row.{uidSize}
+use Rattle.slot.specs.declared.Slot.{Slot}
+use Rattle.table.specs.Places.{rowOf}
 
 -- the 64 bits of a double as a NetFloat: low half, high half
 abbrev pub double : ℕ → tree.Value
@@ -49,20 +49,20 @@ parametersFrom zero c s p = none
 parametersFrom (suc n) c s p = listIf (presentAt s p) (pair p (elementOf (heldValue c s p))) (parametersFrom n c s (p + 1))
 
 -- a device's row: "socket, type (both NetInt), UID (NetBlob), then for each held parameter"
-unfoldable pub device : List ℕ → Slot → Elements
-device c s =
-    value (int (s .socket)) (value (int (s .device)) (value (blob (leBytes 8 (s .uid))) (parametersFrom paramCount c s 0)))
+unfoldable pub deviceRow : List ℕ → Slot → Elements
+deviceRow c s =
+    value (int (s .socket)) (value (int (s .device)) (value (blob (leBytes uidSize (s .uid))) (parametersFrom paramCount c s 0)))
 
 -- the row of a socket's device, if it has one, before the rows of the sockets above it
-unfoldable pub rowBefore : List ℕ → Table → Place → Elements → Elements
-rowBefore c t Nowhere rest = rest
-rowBefore c t (At i) rest = list (device c (slotAt t i)) rest
+unfoldable pub rowBefore : List ℕ → Option Slot → Elements → Elements
+rowBefore c option.none rest = rest
+rowBefore c (some s) rest = list (deviceRow c s) rest
 
 -- "in rising socket order": of the n sockets from `socket` on
-unfoldable pub devicesFrom : ℕ → List ℕ → Table → ℕ → Elements
-devicesFrom zero c t socket = none
-devicesFrom (suc n) c t socket = rowBefore c t (slotOf t socket) (devicesFrom n c t (socket + 1))
+unfoldable pub devicesFrom : ℕ → ℕ → List ℕ → List ℕ → ℕ → Elements
+devicesFrom zero slots c t socket = none
+devicesFrom (suc n) slots c t socket = rowBefore c (rowOf slots t socket) (devicesFrom n slots c t (socket + 1))
 
 -- "one row for each seated socket"
-abbrev pub published : List ℕ → Table → Elements
-published c t = devicesFrom socketCount c t 0
+abbrev pub published : ℕ → ℕ → List ℕ → List ℕ → Elements
+published slots sockets c t = devicesFrom sockets slots c t 0

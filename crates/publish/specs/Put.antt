@@ -13,7 +13,8 @@ use Rattle.list.specs.Kind.{codeOf, listCode}
 use Rattle.list.specs.Bytes.{number}
 use Rattle.value.specs.declared.Value.{Value}
 use Rattle.value.specs.declared.Value.the-variants as values
-use Rattle.table.specs.declared.Slot.{Slot}
+use Rattle.slot.specs.Row.{uidSize}
+use Rattle.slot.specs.declared.Slot.{Slot}
 
 -- the bytes fit from an offset on
 abbrev pub Room : List ℕ → ℕ → List ℕ → Type 0
@@ -30,7 +31,7 @@ front s held =
     (number listCode ++ number (3 + held)) ++
     ((number (codeOf Int) ++ number (s .socket)) ++
     ((number (codeOf Int) ++ number (s .device)) ++
-    (number (codeOf Blob) ++ (number 8 ++ leBytes 8 (s .uid)))))
+    (number (codeOf Blob) ++ (number uidSize ++ leBytes uidSize (s .uid)))))
 
 -- a Float is a number or an infinity
 unfoldable pub NoNan : Value → Type 0

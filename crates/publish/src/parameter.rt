@@ -4,39 +4,15 @@ use list::LIST_CODE;
 use numbers::put_two_u32;
 use value::Value;
 ghost use Prim.Native.Nat.{_+_, _≤_};
-ghost use mathlib.Core.Path.{_≡_};
-ghost use mathlib.Core.Bool.{cond};
 ghost use lib.ListN.{length};
-ghost use mir.Syntax.{w32};
-ghost use mir.Val.{ofZ};
 ghost use Rattle.list.specs.Kind.{listCode};
 ghost use Rattle.list.specs.Tree.{none, list, int};
-ghost use Rattle.list.specs.Bytes.{number, elementBytes};
+ghost use Rattle.list.specs.Bytes.{elementBytes};
 ghost use Rattle.publish.specs.Published.{double, elementOf, pair};
 ghost use Rattle.publish.specs.Put.{Room, Put, NoNan};
 
 // The elements of a parameter's list: its index and its value.
 const PAIR: u32 = 2;
-
-// The 32 bits of a signed number.
-fn bits_of(i: i32) -> u32
-    ensures { λ r. ⌜ r ≡ ofZ w32 i ⌝ }
-{
-    if 0 <= i {
-        return i as u32;
-    }
-    let m = !i;
-    0xffff_ffff - (m as u32)
-}
-
-fn flag_bits(flag: bool) -> u32
-    ensures { λ r. ⌜ r ≡ cond flag 1 0 ⌝ }
-{
-    if flag {
-        return 1;
-    }
-    0
-}
 
 // Index and value are both NetInts: the list has their code, and they carry none.
 fn put_int_pair(buffer: &mut [u8], at: usize, index: u32, x: u32) -> usize
@@ -71,9 +47,9 @@ pub fn put_parameter(buffer: &mut [u8], at: usize, index: u32, v: Value) -> usiz
     ensures { λ r. ⌜ Put (now (buffer .entry)) at (elementBytes listCode (list (pair index (elementOf v)) none)) (now (buffer .exit)) r ⌝ }
 {
     match v {
-        Value::Int(i) => put_int_pair(buffer, at, index, bits_of(i)),
+        Value::Int(i) => put_int_pair(buffer, at, index, value::int_bits(i)),
         Value::Float(x) => put_double_pair(buffer, at, index, f64::to_bits(x as f64)),
-        Value::Bool(flag) => put_int_pair(buffer, at, index, flag_bits(flag)),
+        Value::Bool(flag) => put_int_pair(buffer, at, index, value::flag_bits(flag)),
         Value::Nan(bits) => put_double_pair(buffer, at, index, value::widen(bits)),
     }
 }

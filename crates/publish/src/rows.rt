@@ -1,13 +1,13 @@
 // The rows of the list. A list's code and count are written once its elements stand behind them and are counted.
 use super::parameter::put_parameter;
+use catalogue::MAX_PARAMETERS;
 use list::Kind;
 use list::LIST_CODE;
 use numbers::put_two_u32;
-use table::PARAMS;
+use slot::Slot;
 use table::Place;
+use table::SLOTS;
 use table::SOCKETS;
-use table::Slot;
-use table::Table;
 ghost use Prim.Native.Nat.{_+_, _≤_};
 ghost use mathlib.Core.Path.{_≡_};
 ghost use mathlib.Core.List.{_++_};
@@ -19,8 +19,10 @@ ghost use Rattle.list.specs.Kind.{listCode, codeOf};
 ghost use Rattle.list.specs.declared.Kind.the-variants.{Blob};
 ghost use Rattle.list.specs.Tree.{none, list, count};
 ghost use Rattle.list.specs.Bytes.{number, elementBytes, listBytes};
-ghost use Rattle.table.specs.Slots.{paramCount};
-ghost use Rattle.publish.specs.Published.{parametersFrom, device, published};
+ghost use Rattle.slot.specs.Slot.{paramCount};
+ghost use Rattle.slot.specs.Row.{uidSize};
+ghost use Rattle.table.specs.Places.{slotCount, socketCount};
+ghost use Rattle.publish.specs.Published.{parametersFrom, deviceRow, published};
 ghost use Rattle.publish.specs.Put.{Room, Put, front};
 
 // The bytes of a row before its parameters, and of the outer list before its rows.
@@ -44,14 +46,14 @@ struct Extent {
 fn put_parameters(c: &[u8], s: Slot, buffer: &mut [u8], at: usize) -> Extent
     requires { ⌜ Room (now buffer) at (elementBytes listCode (parametersFrom paramCount (now c) s 0)) ⌝ }
     ensures { λ r. ⌜ Put (now (buffer .entry)) at (elementBytes listCode (parametersFrom paramCount (now (c .entry)) s 0)) (now (buffer .exit)) (r .end)
-        × (r .count ≡ count (parametersFrom paramCount (now (c .entry)) s 0)) × (r .count ≤ 32) ⌝ }
+        × (r .count ≡ count (parametersFrom paramCount (now (c .entry)) s 0)) × (r .count ≤ paramCount) ⌝ }
 {
     let d = catalogue::find_device(c, s.device);
     let bytes = catalogue::parameter_bytes(c, d);
     let mut end = at;
     let mut count: u32 = 0;
     let mut p: usize = 0;
-    while p < PARAMS {
+    while p < MAX_PARAMETERS {
         if s.present[p] {
             let kind = catalogue::describe(bytes[p]).kind;
             let v = value::value_of(kind, s.bits[p]);
@@ -66,7 +68,7 @@ fn put_parameters(c: &[u8], s: Slot, buffer: &mut [u8], at: usize) -> Extent
 // A UID: a blob of eight bytes, low byte first as they came.
 fn put_uid(buffer: &mut [u8], at: usize, uid: u64)
     requires { ⌜ at + 16 ≤ length (now buffer) ⌝ }
-    ensures { λ _. ⌜ now (buffer .exit) ≡ sets (now (buffer .entry)) at (number (codeOf Blob) ++ (number 8 ++ leBytes 8 uid)) ⌝ }
+    ensures { λ _. ⌜ now (buffer .exit) ≡ sets (now (buffer .entry)) at (number (codeOf Blob) ++ (number uidSize ++ leBytes uidSize uid)) ⌝ }
 {
     put_two_u32(buffer, at, Kind::BLOB, UID_BYTES);
     numbers::put_u64(buffer, at + 8, uid);
@@ -74,7 +76,7 @@ fn put_uid(buffer: &mut [u8], at: usize, uid: u64)
 
 // A device's row up to its parameters, of which `held` follow.
 fn put_front(buffer: &mut [u8], at: usize, s: Slot, held: u32)
-    requires { ⌜ (at + 40 ≤ length (now buffer)) × (held ≤ 32) ⌝ }
+    requires { ⌜ (at + 40 ≤ length (now buffer)) × (held ≤ paramCount) ⌝ }
     ensures { λ _. ⌜ now (buffer .exit) ≡ sets (now (buffer .entry)) at (front s held) ⌝ }
 {
     put_two_u32(buffer, at, LIST_CODE, ROW_FIXED + held);
@@ -85,8 +87,8 @@ fn put_front(buffer: &mut [u8], at: usize, s: Slot, held: u32)
 
 // A device's row.
 fn put_device(c: &[u8], s: Slot, buffer: &mut [u8], at: usize) -> usize
-    requires { ⌜ Room (now buffer) at (elementBytes listCode (list (device (now c) s) none)) ⌝ }
-    ensures { λ r. ⌜ Put (now (buffer .entry)) at (elementBytes listCode (list (device (now (c .entry)) s) none)) (now (buffer .exit)) r ⌝ }
+    requires { ⌜ Room (now buffer) at (elementBytes listCode (list (deviceRow (now c) s) none)) ⌝ }
+    ensures { λ r. ⌜ Put (now (buffer .entry)) at (elementBytes listCode (list (deviceRow (now (c .entry)) s) none)) (now (buffer .exit)) r ⌝ }
 {
     let x = put_parameters(c, s, buffer, at + ROW_FRONT);
     put_front(buffer, at, s, x.count);
@@ -94,18 +96,18 @@ fn put_device(c: &[u8], s: Slot, buffer: &mut [u8], at: usize) -> usize
 }
 
 // The rows of all devices.
-fn put_devices(c: &[u8], t: Table, buffer: &mut [u8], at: usize) -> Extent
-    requires { ⌜ Room (now buffer) at (elementBytes listCode (published (now c) t)) ⌝ }
-    ensures { λ r. ⌜ Put (now (buffer .entry)) at (elementBytes listCode (published (now (c .entry)) t)) (now (buffer .exit)) (r .end)
-        × (r .count ≡ count (published (now (c .entry)) t)) ⌝ }
+fn put_devices(c: &[u8], t: &[u8], buffer: &mut [u8], at: usize) -> Extent
+    requires { ⌜ Room (now buffer) at (elementBytes listCode (published slotCount socketCount (now c) (now t))) ⌝ }
+    ensures { λ r. ⌜ Put (now (buffer .entry)) at (elementBytes listCode (published slotCount socketCount (now (c .entry)) (now (t .entry)))) (now (buffer .exit)) (r .end)
+        × (r .count ≡ count (published slotCount socketCount (now (c .entry)) (now (t .entry)))) ⌝ }
 {
     let mut end = at;
     let mut count: u32 = 0;
     let mut socket: u8 = 0;
     while socket < SOCKETS {
-        let place = table::find_slot(t, socket);
+        let place = table::find_slot(t, SLOTS, socket);
         if let Place::At(i) = place {
-            let s = t.slots[i];
+            let s = slot::slot_at(t, i);
             end = put_device(c, s, buffer, end);
             count += 1;
         }
@@ -115,10 +117,10 @@ fn put_devices(c: &[u8], t: Table, buffer: &mut [u8], at: usize) -> Extent
 }
 
 // The published list at the front of the buffer.
-pub fn put_list(c: &[u8], t: Table, buffer: &mut [u8]) -> usize
-    requires { ⌜ length (listBytes (published (now c) t)) ≤ length (now buffer) ⌝ }
-    ensures { λ r. ⌜ (now (buffer .exit) ≡ over (listBytes (published (now (c .entry)) t)) (now (buffer .entry)))
-        × (r ≡ length (listBytes (published (now (c .entry)) t))) ⌝ }
+pub fn put_list(c: &[u8], t: &[u8], buffer: &mut [u8]) -> usize
+    requires { ⌜ length (listBytes (published slotCount socketCount (now c) (now t))) ≤ length (now buffer) ⌝ }
+    ensures { λ r. ⌜ (now (buffer .exit) ≡ over (listBytes (published slotCount socketCount (now (c .entry)) (now (t .entry)))) (now (buffer .entry)))
+        × (r ≡ length (listBytes (published slotCount socketCount (now (c .entry)) (now (t .entry))))) ⌝ }
 {
     let x = put_devices(c, t, buffer, LIST_FRONT);
     put_two_u32(buffer, 0, LIST_CODE, x.count);

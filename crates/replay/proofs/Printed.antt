@@ -1,10 +1,9 @@
--- What printing a value asks: the size of a signed number fits 32 bits, and a float that equals itself is no NaN.
+-- What printing a value asks: the size of a signed number fits 32 bits.
 use Prim.Native.Nat.{ℕ, suc, _-_, _<_, _^_}
 use mathlib.Core.Path.{_≡_, sym, ap, _∙_}
-use mathlib.Core.Bool.{Bool, true, false, not, cond}
+use mathlib.Core.Bool.{Bool, true, false, cond}
 use native.Mathlib.Omega.{arith}
 use lib.Dec.{T}
-use lib.Ieee.{Float, nan, inf, fin, eq, isNan}
 use lib.IntN.{ℤ, pos, negsuc, natAbs}
 use lib.Signed.{leZ, nonNeg}
 use mir.Facts.{toZ-ofZ}
@@ -32,9 +31,3 @@ below (pos n) f h = never (sym h ∙ ap (leZ (pos 0)) (small-is n (f .sfits)) �
 below (negsuc n) f h =
     let e : 4294967295 - (2 ^ 32 - suc n) ≡ n = omega (arith, f .sfits) in
     rw (e, small-is n (f .sfits)) (tt, omega (arith, f .sfits))
-
-pub equals-itself : (x : Float) → eq x x ≡ true → T (not (isNan x))
-unfolding eq isNan
-equals-itself nan e = never e
-equals-itself (inf s) e = tt
-equals-itself (fin s m k) e = tt

@@ -5,12 +5,18 @@ use mathlib.Core.List.{List}
 use native.Mathlib.Omega.{arith}
 use lib.ListN.{length, getD, take, drop, length-drop}
 use lib.Seq.{length-take-le}
+use Rattle.table.specs.Places.{slotCount, tableSize}
 use Rattle.replay.specs.Record.{recordSize, Whole}
 
 -- a packet's record has four bytes before the packet
 pub receive-size : (s : List ℕ) → getD s 0 0 ≡ 1 → 4 ≤ recordSize s
 unfolding recordSize
 receive-size s e = rw e (omega arith)
+
+-- a whole record that loads a table has the table behind its first byte
+pub load-table : (s : List ℕ) → getD s 0 0 ≡ 5 → recordSize s ≤ length s → 1 + tableSize slotCount ≤ length s
+unfolding recordSize
+load-table s e l = rw e at l
 
 -- the rest of the records from an offset on
 abbrev pub restAt : List ℕ → ℕ → List ℕ

@@ -5,10 +5,7 @@ use mathlib.Core.List.{List}
 use lib.Dec.{eqb}
 use lib.ListN.{length, getD}
 use Rattle.wire.specs.Number.{numberAt}
-
--- "four seats of 172 bytes"
-abbrev pub TABLE_BYTES : ℕ
-TABLE_BYTES = 688
+use Rattle.table.specs.Places.{slotCount, tableSize}
 
 -- the bytes of a record: "01, socket, two-byte length, packet bytes", 02 to 06; 0 where it is unknown
 unfoldable pub recordSize : List ℕ → ℕ
@@ -17,7 +14,7 @@ recordSize s =
     (cond (eqb (getD s 0 0) 2) 2
     (cond (eqb (getD s 0 0) 3) 1
     (cond (eqb (getD s 0 0) 4) 3
-    (cond (eqb (getD s 0 0) 5) (1 + TABLE_BYTES)
+    (cond (eqb (getD s 0 0) 5) (1 + tableSize slotCount)
     (cond (eqb (getD s 0 0) 6) 1
     0)))))
 

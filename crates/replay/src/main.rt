@@ -1,7 +1,6 @@
 // Replays captured packets and other calls against one hub: records from standard input, a line of output for each.
 mod play;
 mod record;
-mod table_bytes;
 mod value_line;
 
 use libc::STDIN_FILENO;

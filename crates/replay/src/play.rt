@@ -5,12 +5,11 @@ use super::record::LOAD;
 use super::record::PUBLISH;
 use super::record::READ;
 use super::record::RECEIVE;
-use super::table_bytes;
 use super::value_line;
 use hub::Answer;
 use hub::Published;
 use hub::Receipt;
-use hub::Table;
+use hub::TABLE_BYTES;
 use list::LIST_LIMIT;
 use output::LIST_LINE_ROOM;
 ghost use mathlib.Core.Path.{_≡_};
@@ -18,12 +17,6 @@ ghost use Rattle.replay.specs.Record.{recordSize, Whole};
 
 // Output is collected, and written when less room is left than a line may take.
 const OUTPUT_ROOM: usize = 4 * LIST_LINE_ROOM;
-
-// The table and the bytes of output after a record.
-struct Played {
-    table: Table,
-    used: usize,
-}
 
 fn put_receipt(out: &mut [u8], used: usize, a: Receipt) -> usize {
     match a {
@@ -34,20 +27,14 @@ fn put_receipt(out: &mut [u8], used: usize, a: Receipt) -> usize {
 
 fn receive(
     catalogue: &[u8],
-    t: Table,
+    table: &mut [u8],
     socket: u8,
     packet: &[u8],
     out: &mut [u8],
     used: usize,
-) -> Played {
-    let r = hub::receive(catalogue, t, socket, packet);
-    let a = r.answer;
-    let n = put_receipt(out, used, a);
-    let after = r.table;
-    Played {
-        table: after,
-        used: n,
-    }
+) -> usize {
+    let a = hub::receive(catalogue, table, socket as u64, packet);
+    put_receipt(out, used, a)
 }
 
 fn put_detached(out: &mut [u8], used: usize, a: Answer) -> usize {
@@ -57,21 +44,21 @@ fn put_detached(out: &mut [u8], used: usize, a: Answer) -> usize {
     }
 }
 
-fn detach(catalogue: &[u8], t: Table, socket: u8, out: &mut [u8], used: usize) -> Played {
-    let u = hub::detach(catalogue, t, socket);
-    let a = u.answer;
-    let n = put_detached(out, used, a);
-    let after = u.table;
-    Played {
-        table: after,
-        used: n,
-    }
+fn detach(catalogue: &[u8], table: &mut [u8], socket: u8, out: &mut [u8], used: usize) -> usize {
+    let a = hub::detach(catalogue, table, socket as u64);
+    put_detached(out, used, a)
 }
 
-fn read(catalogue: &[u8], t: Table, socket: u8, index: u8, out: &mut [u8], used: usize) -> Played {
-    let r = hub::read_parameter(catalogue, t, socket, index as usize);
-    let n = value_line::put_reading(out, used, r);
-    Played { table: t, used: n }
+fn read(
+    catalogue: &[u8],
+    table: &[u8],
+    socket: u8,
+    index: u8,
+    out: &mut [u8],
+    used: usize,
+) -> usize {
+    let r = hub::read_parameter(catalogue, table, socket as u64, index as u64);
+    value_line::put_reading(out, used, r)
 }
 
 fn put_published(out: &mut [u8], used: usize, list: &[u8], n: usize) -> usize {
@@ -81,67 +68,72 @@ fn put_published(out: &mut [u8], used: usize, list: &[u8], n: usize) -> usize {
     output::put(&mut *out, c, b"\n")
 }
 
-fn publish(catalogue: &[u8], t: Table, out: &mut [u8], used: usize) -> usize {
+fn publish(catalogue: &[u8], table: &[u8], out: &mut [u8], used: usize) -> usize {
     let mut list = [0u8; LIST_LIMIT];
-    let p = hub::publish(catalogue, t, &mut list);
+    let p = hub::publish(catalogue, table, &mut list);
     match p {
         Published::Written(n) => put_published(out, used, &list, n),
         Published::Refused(error) => output::put_line(out, used, b"refused ", error as u64),
     }
 }
 
-fn show_list(catalogue: &[u8], t: Table, out: &mut [u8], used: usize) -> Played {
-    let n = publish(catalogue, t, out, used);
-    Played { table: t, used: n }
+fn load(table: &mut [u8], record: &[u8], out: &mut [u8], used: usize) -> usize {
+    wire::copy_at(table, 0, record);
+    output::put(out, used, b"loaded\n")
 }
 
-fn load(record: &[u8], out: &mut [u8], used: usize) -> Played {
-    let t = table_bytes::table_in(record);
-    let n = output::put(out, used, b"loaded\n");
-    Played { table: t, used: n }
-}
-
-fn show_table(t: Table, out: &mut [u8], used: usize) -> Played {
+fn show_table(table: &[u8], out: &mut [u8], used: usize) -> usize {
     let a = output::put(&mut *out, used, b"table ");
-    let b = table_bytes::put_table(&mut *out, a, t);
-    let c = output::put(&mut *out, b, b"\n");
-    Played { table: t, used: c }
+    let b = output::put_bytes(&mut *out, a, table);
+    output::put(&mut *out, b, b"\n")
 }
 
 // Plays the record of this size at the front.
-fn play(catalogue: &[u8], t: Table, s: &[u8], size: usize, out: &mut [u8], used: usize) -> Played
+fn play(
+    catalogue: &[u8],
+    table: &mut [u8],
+    s: &[u8],
+    size: usize,
+    out: &mut [u8],
+    used: usize,
+) -> usize
     requires { ⌜ (size ≡ recordSize (now s)) × Whole (now s) ⌝ }
 {
     match wire::byte_at(s, 0) {
-        RECEIVE => receive(catalogue, t, wire::byte_at(s, 1), &s[4..size], out, used),
-        DETACH => detach(catalogue, t, wire::byte_at(s, 1), out, used),
-        PUBLISH => show_list(catalogue, t, out, used),
+        RECEIVE => receive(
+            catalogue,
+            table,
+            wire::byte_at(s, 1),
+            &s[4..size],
+            out,
+            used,
+        ),
+        DETACH => detach(catalogue, table, wire::byte_at(s, 1), out, used),
+        PUBLISH => publish(catalogue, &*table, out, used),
         READ => read(
             catalogue,
-            t,
+            &*table,
             wire::byte_at(s, 1),
             wire::byte_at(s, 2),
             out,
             used,
         ),
-        LOAD => load(s, out, used),
-        _ => show_table(t, out, used),
+        LOAD => load(table, &s[1..size], out, used),
+        _ => show_table(&*table, out, used),
     }
 }
 
 // Plays all records. A bad one ends the program.
 fn play_all(catalogue: &[u8], records: &[u8], out: &mut [u8]) {
     let mut used: usize = 0;
-    let mut t = hub::empty_table();
+    let mut table = [0u8; TABLE_BYTES];
     let mut at: usize = 0;
     let mut k: usize = 1;
     while at < records.len() {
         used = output::flush_if_full(&*out, used);
         if record::is_good(&records[at..]) {
             let size = record::size_of(&records[at..]);
-            let p = play(catalogue, t, &records[at..], size, &mut *out, used);
-            t = p.table;
-            used = p.used;
+            used = play(catalogue, &mut table, &records[at..], size, &mut *out, used);
             at += size;
             k += 1;
         } else {

@@ -1,8 +1,12 @@
 // Records: their numbers and sizes.
-use super::table_bytes::TABLE_BYTES;
-use super::table_bytes::are_flags;
+use hub::SLOT_BYTES;
+use hub::TABLE_BYTES;
+use table::SLOTS;
+ghost use Prim.Native.Nat.{_+_, _≤_};
 ghost use mathlib.Core.Path.{_≡_};
 ghost use mathlib.Core.Bool.{true};
+ghost use lib.ListN.{length};
+ghost use Rattle.table.specs.Places.{slotCount, tableSize};
 ghost use Rattle.replay.specs.Record.{recordSize, Whole};
 
 pub const RECEIVE: u8 = 1;
@@ -32,6 +36,22 @@ pub fn size_of(s: &[u8]) -> usize
     }
 }
 
+// Whether the bytes behind the first are a table's rows.
+fn are_rows(s: &[u8]) -> bool
+    requires { ⌜ 1 + tableSize slotCount ≤ length (now s) ⌝ }
+{
+    let mut i: usize = 0;
+    while i < SLOTS {
+        let at = 1 + SLOT_BYTES * i;
+        if slot::is_row(&s[at..at + SLOT_BYTES]) {
+            i += 1;
+        } else {
+            return false;
+        }
+    }
+    true
+}
+
 // Whether a record that is known, whole and loads no other flags than 0 and 1 stands at the front.
 pub fn is_good(s: &[u8]) -> bool
     ensures { λ r. ⌜ (r ≡ true → Whole (now (s .entry))) ⌝ }
@@ -44,7 +64,7 @@ pub fn is_good(s: &[u8]) -> bool
         return false;
     }
     if wire::byte_at(s, 0) == LOAD {
-        return are_flags(s);
+        return are_rows(s);
     }
     true
 }

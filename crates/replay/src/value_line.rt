@@ -32,18 +32,10 @@ fn put_flag(out: &mut [u8], used: usize, flag: bool) -> usize {
     output::put(out, used, b"flag 0\n")
 }
 
-// The bits of a float. A NaN does not keep them, and comes as its bits instead.
-fn float_bits(x: f32) -> u32 {
-    if x == x {
-        return f32::to_bits(x);
-    }
-    0
-}
-
 fn put_value(out: &mut [u8], used: usize, v: Value) -> usize {
     match v {
         Value::Int(i) => put_int(out, used, i),
-        Value::Float(x) => put_float(out, used, float_bits(x)),
+        Value::Float(x) => put_float(out, used, value::float_bits(x)),
         Value::Bool(flag) => put_flag(out, used, flag),
         Value::Nan(bits) => put_float(out, used, bits),
     }

@@ -49,17 +49,18 @@ answered s offset rows store rows′ store′ a x h g f o e =
     sym (answers s offset rows store (enough rows store (omega arith) (omega arith)) f) ∙ ap (λ (z : Outcome Found). z .answer) (sym o) ∙ ap foundOf e
 
 -- a list stands at the offset: it has the bytes of the shortest list or more, and all of them are there
-pub record ListAt (s : List ℕ) (offset n rows : ℕ) : Type 0 where
-  pub found : answerAt s offset ≡ accepted n rows
+pub record ListAt (s : List ℕ) (offset n rows stored : ℕ) : Type 0 where
+  pub found : answerAt s offset ≡ accepted n rows stored
   pub some : leastList ≤ n
   pub fits : offset + n ≤ length s
 
-list-at : (s : List ℕ) (offset n rows : ℕ) → Bytes s → offset ≤ length s → answerAt s offset ≡ accepted n rows → ListAt s offset n rows
+list-at : (s : List ℕ) (offset n rows stored : ℕ) → Bytes s → offset ≤ length s → answerAt s offset ≡ accepted n rows stored
+    → ListAt s offset n rows stored
 unfolding answerAt
-list-at s offset n rows b f h = go (eqb offset (length s)) (parse listLimit (drop offset s)) refl h
+list-at s offset n rows stored b f h = go (eqb offset (length s)) (parse listLimit (drop offset s)) refl h
   where
-    go : (e : Bool) (p : Parsed Elements) → parse listLimit (drop offset s) ≡ p → cond e ended (answerOf offset p) ≡ accepted n rows
-        → ListAt s offset n rows
+    go : (e : Bool) (p : Parsed Elements) → parse listLimit (drop offset s) ≡ p → cond e ended (answerOf offset p) ≡ accepted n rows stored
+        → ListAt s offset n rows stored
     go true p q g = absurd (let z : _≡_ {A = ℕ} 0 1 = cc in omega arith)
     go false (bad r) q g = absurd (let z : _≡_ {A = ℕ} 0 1 = cc in omega arith)
     go false (good es m) q g =
@@ -68,10 +69,10 @@ list-at s offset n rows b f h = go (eqb offset (length s)) (parse listLimit (dro
         let r = reaches listLimit (drop offset s) es m q in
         record { found = h; some = omega (arith, list-size es, w .1); fits = omega (arith, length-drop offset s, r .1) }
 
-pub list-found : (s : List ℕ) (offset : ℕ) (rows store rows′ store′ : List ℕ) (a : Step) (n m : ℕ) → length rows ≡ 4 * rowRoom → length store ≡ storeRoom → offset ≤ length s
-    → ((i : ℕ) → Fits w8 (getD s i 0)) → outcome (foundOf a) rows′ store′ ≡ stepOf s offset rows store → a ≡ step.List n m → ListAt s offset n m
-list-found s offset rows store rows′ store′ a n m h g f b o e =
-    list-at s offset n m (bytes-all s (λ i. b i .fits)) f (answered s offset rows store rows′ store′ a (step.List n m) h g f o e)
+pub list-found : (s : List ℕ) (offset : ℕ) (rows store rows′ store′ : List ℕ) (a : Step) (n m u : ℕ) → length rows ≡ 4 * rowRoom → length store ≡ storeRoom → offset ≤ length s
+    → ((i : ℕ) → Fits w8 (getD s i 0)) → outcome (foundOf a) rows′ store′ ≡ stepOf s offset rows store → a ≡ step.List n m u → ListAt s offset n m u
+list-found s offset rows store rows′ store′ a n m u h g f b o e =
+    list-at s offset n m u (bytes-all s (λ i. b i .fits)) f (answered s offset rows store rows′ store′ a (step.List n m u) h g f o e)
 
 -- the text so far and the text from here on are the whole
 module _ (s : List ℕ) (offset k used : ℕ) (text text′ : List ℕ) (whole : List ℕ) (to : ℕ)
@@ -79,10 +80,10 @@ module _ (s : List ℕ) (offset k used : ℕ) (text text′ : List ℕ) (whole :
   more : textFrom (length s + 2 - k) s offset k ≡ textFrom (suc (length s + 1 - k)) s offset k
   more = ap (λ (f : ℕ). textFrom f s offset k) (omega arith)
 
-  pub text-list : (n rows : ℕ) → answerAt s offset ≡ accepted n rows → Added text used text′ to (listLine k n rows)
+  pub text-list : (n rows stored : ℕ) → answerAt s offset ≡ accepted n rows stored → Added text used text′ to (listLine k n rows)
       → take to text′ ++ textFrom (length s + 2 - (k + 1)) s (offset + n) (k + 1) ≡ whole
   unfolding textFrom
-  text-list n rows a d =
+  text-list n rows stored a d =
       let left : length s + 2 - (k + 1) ≡ length s + 1 - k = omega arith in
       let fuel : textFrom (length s + 2 - (k + 1)) s (offset + n) (k + 1) ≡ textFrom (length s + 1 - k) s (offset + n) (suc k) =
       ap (λ (f : ℕ). textFrom f s (offset + n) (k + 1)) left ∙ ap (textFrom (length s + 1 - k) s (offset + n)) (add-one k) in

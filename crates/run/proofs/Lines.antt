@@ -11,7 +11,7 @@ use borrow.Author.Tests.{eq-eqb, ne-eqb, lt-ltb, le-ltb}
 use Rattle.wire.specs.Number.{Bytes}
 use Rattle.list.specs.Tree.{Elements}
 use Rattle.list.specs.Bytes.{listBytes}
-use Rattle.list.specs.Rows.{rowCount}
+use Rattle.list.specs.Rows.{listStore, rowCount}
 use Rattle.stream.specs.Step.{accepted}
 use Rattle.stream.specs.Run.{LegalRun, runBytes, StartsNone, behind}
 use Rattle.stream.proofs.Runs.{some-bytes, reads-front}
@@ -21,7 +21,7 @@ use Rattle.run.specs.Text.{listLine, listLines, lastLine, tooLong, print
 
 -- the answer where a legal list stands, and behind the run
 answer-list : (s : List ℕ) (offset : ℕ) (es : Elements) (x : List ℕ) → offset < length s → drop offset s ≡ listBytes es ++ x
-    → LegalRun (es ∷ []) → answerAt s offset ≡ accepted (length (listBytes es)) (rowCount es)
+    → LegalRun (es ∷ []) → answerAt s offset ≡ accepted (length (listBytes es)) (rowCount es) (length (listStore es))
 unfolding answerAt
 answer-list s offset es x f h l = rw (ne-eqb offset (length s) (λ e. omega arith), h, reads-front es x (l .0))
 
@@ -33,10 +33,10 @@ line-behind s offset k fuel (b ∷ rest) w f h =
     let inside : offset < length s = omega (arith, simp length-drop at (ap length h)) in
     rw (ne-eqb offset (length s) (λ e. omega arith), h, w .1)
 
-first-line : (s : List ℕ) (offset k fuel n rows : ℕ) → answerAt s offset ≡ accepted n rows
+first-line : (s : List ℕ) (offset k fuel n rows stored : ℕ) → answerAt s offset ≡ accepted n rows stored
     → textFrom (suc fuel) s offset k ≡ listLine k n rows ++ textFrom fuel s (offset + n) (suc k)
 unfolding textFrom
-first-line s offset k fuel n rows a = rw a
+first-line s offset k fuel n rows stored a = rw a
 
 lines-from : (run : List Elements) (s rest : List ℕ) (offset k fuel : ℕ) → LegalRun run → Closed rest → offset ≤ length s
     → drop offset s ≡ runBytes run ++ rest → length run < fuel
@@ -53,7 +53,7 @@ lines-from (es ∷ run) s rest offset k (suc fuel) l w f h g =
     let inside : offset < length s = omega (arith, some-bytes es) in
     let size : offset + n + length (runBytes run) ≡ offset + length (listBytes es ++ runBytes run) = omega (arith, length-append (listBytes es) (runBytes run)) in
     let rest-of = lines-from run s rest (offset + n) (suc k) fuel (l .1) w fits after (omega arith) in
-    first-line s offset k fuel n (rowCount es) (answer-list s offset es x inside front (l .0, tt))
+    first-line s offset k fuel n (rowCount es) (length (listStore es)) (answer-list s offset es x inside front (l .0, tt))
     ∙ ap (λ (z : List ℕ). listLine k n (rowCount es) ++ z) (rest-of ∙ ap (λ (z : ℕ). listLines (suc k) run ++ lastLine z (behind z rest)) size)
     ∙ sym (append-assoc (listLine k n (rowCount es)) (listLines (suc k) run) _)
 

@@ -7,7 +7,7 @@ use lib.ListN.{length, drop}
 use Rattle.list.specs.Limits.{listLimit}
 use Rattle.list.specs.Tree.{Elements}
 use Rattle.list.specs.Bytes.{listBytes}
-use Rattle.list.specs.Rows.{rowCount}
+use Rattle.list.specs.Rows.{listStore, rowCount}
 use Rattle.list.specs.Refusal.{Refusal, moved}
 use Rattle.list.specs.Parse.{Parsed, good, bad, parse}
 use Rattle.stream.specs.Step.{Found, accepted, ended, refused}
@@ -45,7 +45,7 @@ listLines k (es ∷ run) = listLine k (length (listBytes es)) (rowCount es) ++ l
 abbrev pub lastLine : ℕ → Found → List ℕ
 lastLine size ended = endLine size
 lastLine size (refused r) = stopLine r
-lastLine size (accepted consumed rows) = []
+lastLine size (accepted consumed rows stored) = []
 
 -- what is printed for a run and the bytes that follow it
 abbrev pub printed : List Elements → List ℕ → List ℕ
@@ -53,14 +53,14 @@ printed run rest = listLines 1 run ++ lastLine (length (runBytes run)) (behind (
 
 -- Internal: the same by steps, as the program takes them; `proofs/Lines.antt` ties the two.
 abbrev pub answerOf : ℕ → Parsed Elements → Found
-answerOf offset (good es consumed) = accepted consumed (rowCount es)
+answerOf offset (good es consumed) = accepted consumed (rowCount es) (length (listStore es))
 answerOf offset (bad r) = refused (moved offset r)
 
 unfoldable pub answerAt : List ℕ → ℕ → Found
 answerAt s offset = cond (eqb offset (length s)) ended (answerOf offset (parse listLimit (drop offset s)))
 
 abbrev pub lineAnd : (ℕ → List ℕ) → ℕ → ℕ → Found → List ℕ
-lineAnd more offset k (accepted consumed rows) = listLine k consumed rows ++ more consumed
+lineAnd more offset k (accepted consumed rows stored) = listLine k consumed rows ++ more consumed
 lineAnd more offset k ended = endLine offset
 lineAnd more offset k (refused r) = stopLine r
 

@@ -57,7 +57,11 @@ fn stream_text(bytes: &[u8], rows: &mut [u8], store: &mut [u8], text: &mut [u8])
     loop {
         let step = stream::next(bytes, offset, rows, store);
         match step {
-            Step::List { consumed, rows: n } => {
+            Step::List {
+                consumed,
+                rows: n,
+                stored: _,
+            } => {
                 used = list_line(text, used, k, consumed, n as usize);
                 offset += consumed;
                 k += 1;

@@ -31,8 +31,8 @@ answers (o ∷ os) = o .answer ∷ answers os
 
 pub cases :
     (answers (series run 0 (enough ∷ small ∷ enough ∷ enough ∷ enough ∷ []))
-    ≡ accepted 40 9 ∷ refused (refusal 20 0) ∷ accepted 72 10 ∷ ended ∷ ended ∷ [])
+    ≡ accepted 40 9 0 ∷ refused (refusal 20 0) ∷ accepted 72 10 16 ∷ ended ∷ ended ∷ [])
     × (answers (series (run ++ (0 ∷ 0 ∷ [])) 0 (enough ∷ enough ∷ enough ∷ []))
-    ≡ accepted 40 9 ∷ accepted 72 10 ∷ refused (refusal 21 112) ∷ [])
+    ≡ accepted 40 9 0 ∷ accepted 72 10 16 ∷ refused (refusal 21 112) ∷ [])
 unfolding hasZero same kindOf codeFor itemFault stringAt blobAt valueAt typedAt isListCode codedAt mixedAt listAt parse unpacked roomy decodingOf stepOf series
 cases = (refl, refl)

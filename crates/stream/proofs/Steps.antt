@@ -30,7 +30,7 @@ room rows store = rw (room-bytes rowRoom rows)
 
 -- where the item at fault stands, 0 where there is none
 abbrev pub faultOf : Reading → ℕ
-faultOf (decode.accepted consumed rows) = 0
+faultOf (decode.accepted consumed rows stored) = 0
 faultOf (decode.refused f) = f .offset
 
 -- it is never past the end
@@ -67,7 +67,7 @@ module _ (s : List ℕ) (offset : ℕ) (rows store : List ℕ) where
     step-parsed p e = step-in ∙ rw (r, e)
 
     pub step-found : (es : Elements) (n : ℕ) → parse listLimit (drop offset s) ≡ good es n
-        → stepOf s offset rows store ≡ outcome (accepted n (rowCount es)) (over (packed (listRows es)) rows) (over (listStore es) store)
+        → stepOf s offset rows store ≡ outcome (accepted n (rowCount es) (length (listStore es))) (over (packed (listRows es)) rows) (over (listStore es) store)
     step-found es n e = step-parsed (good es n) e
 
     pub step-fault : (f : Refusal) → parse listLimit (drop offset s) ≡ bad f → stepOf s offset rows store ≡ outcome (refused (moved offset f)) rows store

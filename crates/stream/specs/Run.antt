@@ -39,10 +39,12 @@ StartsNone s = (es : Elements) → Legal listLimit es → Opens (listBytes es) s
 abbrev pub passedOver : Lending → Outcome Found
 passedOver l = outcome (refused (refusal 20 0)) (l .rows) (l .store)
 
--- "it answers that list's numbers of bytes and rows, and the areas hold its rows and store bytes at the front, beyond them what they held"
+-- "it answers that list's numbers of bytes and rows, and the areas hold its rows and store bytes at the front, beyond them what they held";
+-- it answers the number of these store bytes too
 abbrev pub handedOver : Elements → Lending → Outcome Found
 handedOver es l =
-    outcome (accepted (length (listBytes es)) (rowCount es)) (over (packed (listRows es)) (l .rows)) (over (listStore es) (l .store))
+    outcome (accepted (length (listBytes es)) (rowCount es) (length (listStore es)))
+    (over (packed (listRows es)) (l .rows)) (over (listStore es) (l .store))
 
 -- "list reading's refusal of those bytes alone, the run's bytes added to its place"; bytes that start with no legal list are never `good`
 abbrev pub refusedBehind : ℕ → Parsed Elements → Found

@@ -11,7 +11,7 @@ pub record Lending : Type 0 where
 
 -- "the bytes taken there (0 for a refusal or the end)"
 abbrev pub consumedBy : Found → ℕ
-consumedBy (accepted consumed rows) = consumed
+consumedBy (accepted consumed rows stored) = consumed
 consumedBy ended = 0
 consumedBy (refused r) = 0
 

@@ -10,15 +10,15 @@ use Rattle.list_decode.specs.Decode.{Outcome, outcome, Reading, roomy, decoding
 use Rattle.stream.specs.declared.Step.{Step}
 use Rattle.stream.specs.declared.Step.the-variants as step
 
--- what a step finds: "bytes taken and rows filled", the run's "end", or the refusal with "the place of the item at fault"
+-- what a step finds: "bytes taken and rows filled" and the store bytes in use, the run's "end", or the refusal with "the place of the item at fault"
 pub data Found : Type 0 where
-  accepted : (consumed rows : ℕ) → Found
+  accepted : (consumed rows stored : ℕ) → Found
   ended : Found
   refused : Refusal → Found
 
 -- what list reading finds at an offset, a refusal's place counted from the stream's front
 abbrev pub fromFront : ℕ → Reading → Found
-fromFront offset (decode.accepted consumed rows) = accepted consumed rows
+fromFront offset (decode.accepted consumed rows stored) = accepted consumed rows stored
 fromFront offset (decode.refused r) = refused (moved offset r)
 
 -- an outcome with its answer in other words, both areas as they are
@@ -36,6 +36,6 @@ stepOf s offset rows store =
 
 -- what the code's answer says
 abbrev pub foundOf : Step → Found
-foundOf (step.List consumed rows) = accepted consumed rows
+foundOf (step.List consumed rows stored) = accepted consumed rows stored
 foundOf step.End = ended
 foundOf (step.Refused r) = refused (refusalOf r)

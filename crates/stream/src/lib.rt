@@ -9,7 +9,11 @@ use list_decode::Decoded;
 
 // What a step answers. Offsets are counted from the front of the stream.
 pub enum Step {
-    List { consumed: usize, rows: u32 },
+    List {
+        consumed: usize,
+        rows: u32,
+        stored: usize,
+    },
     End,
     Refused(Refusal),
 }
@@ -34,7 +38,15 @@ pub fn next(bytes: &[u8], offset: usize, rows: &mut [u8], store: &mut [u8]) -> S
     }
     let decoded = list_decode::decode(&bytes[offset..], rows, store);
     match decoded {
-        Decoded::List { consumed, rows: n } => Step::List { consumed, rows: n },
+        Decoded::List {
+            consumed,
+            rows: n,
+            stored,
+        } => Step::List {
+            consumed,
+            rows: n,
+            stored,
+        },
         Decoded::Refused(refusal) => {
             let mut r = refusal;
             r.offset = offset + r.offset;

@@ -1,9 +1,4 @@
 pub mod Steps
 pub mod Tests
-pub mod Places
-pub mod Meaning
-pub mod Keeps
-pub mod Admission
-pub mod Outcome
-pub mod ByBytes
-pub mod Answers
+pub mod Searches
+pub mod Changes

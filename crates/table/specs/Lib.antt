@@ -1,2 +1,2 @@
-pub mod Slots
-pub mod Lawful
+pub mod Places
+pub mod Change

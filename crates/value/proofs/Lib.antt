@@ -1,3 +1,4 @@
 pub mod Values
 pub mod Floats
+pub mod Bits
 pub mod Bench

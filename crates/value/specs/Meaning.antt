@@ -5,9 +5,9 @@ use mathlib.Core.Bool.{cond}
 use lib.Dec.{ltb, leb, eqb}
 use lib.IntN.{ℤ}
 use lib.Ieee as ieee
-use lib.Ieee.{binary32, binary64, ofBits, toBits}
+use lib.Ieee.{binary32, binary64, ofBits, toBits, isNan}
 use mir.Syntax.{w32}
-use mir.Val.{toZ}
+use mir.Val.{toZ, ofZ}
 use Rattle.catalogue.specs.Format.{kindInt, kindFloat}
 use Rattle.value.specs.declared.Value.{Value}
 use Rattle.value.specs.declared.Value.the-variants.{Int, Float, Bool, Nan}
@@ -56,6 +56,18 @@ meaningOf (Bool set) = flag set
 -- what 32 bits say for a parameter of this kind
 abbrev pub meant : ℕ → ℕ → Meaning
 meant kind bits = meaningOf (valueOf kind bits)
+
+-- the 32 bits of a whole number
+abbrev pub intBits : ℤ → ℕ
+intBits number = ofZ w32 number
+
+-- the 32 bits of a single; a value that is read has its NaNs as bits already
+abbrev pub floatBits : ieee.Float → ℕ
+floatBits number = cond (isNan number) 0 (toBits binary32 number)
+
+-- a flag as a number
+abbrev pub flagBits : bool.Bool → ℕ
+flagBits set = cond set 1 0
 
 -- "FLOAT becomes the double of exactly the same value, and infinities and NaNs keep the sign, their fraction moved 29 bits up"
 abbrev pub widened : ℕ → ℕ

@@ -1,6 +1,6 @@
 // A held value: what its 32 bits mean by the parameter's kind, and a single float as a double.
 ghost use mathlib.Core.Path.{_≡_};
-ghost use Rattle.value.specs.Meaning.{intOf, meaningOf, meant, widened};
+ghost use Rattle.value.specs.Meaning.{intOf, intBits, floatBits, flagBits, meaningOf, meant, widened};
 
 // The lowest pattern without the sign that is an infinity or a NaN.
 const INFINITY: u32 = 0x7f80_0000;
@@ -22,6 +22,36 @@ pub fn int_of(bits: u32) -> i32
     }
     let m = 0xffff_ffff - bits;
     !(m as i32)
+}
+
+// The 32 bits of a signed number.
+pub fn int_bits(number: i32) -> u32
+    ensures { λ r. ⌜ r ≡ intBits number ⌝ }
+{
+    if 0 <= number {
+        return number as u32;
+    }
+    let m = !number;
+    0xffff_ffff - (m as u32)
+}
+
+// The 32 bits of a float. A NaN does not keep them, and comes as its bits instead.
+pub fn float_bits(number: f32) -> u32
+    ensures { λ r. ⌜ r ≡ floatBits number ⌝ }
+{
+    if number == number {
+        return f32::to_bits(number);
+    }
+    0
+}
+
+pub fn flag_bits(set: bool) -> u32
+    ensures { λ r. ⌜ r ≡ flagBits set ⌝ }
+{
+    if set {
+        return 1;
+    }
+    0
 }
 
 // The value that 32 bits hold for a parameter of this kind.

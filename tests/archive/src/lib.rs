@@ -2,20 +2,19 @@
 //! as long as it says and, when lent for writing, is apart from all others: that is
 //! all the calls ask of their caller.
 
-#[cfg(feature = "packet")]
-pub use packet::{packet_decode, PacketResult};
-
-#[cfg(any(feature = "list", feature = "stream"))]
-pub use list_result::ListResult;
-
+#[cfg(feature = "hub")]
+pub use hub::{hub_detach, hub_publish, hub_read, hub_receive};
 #[cfg(feature = "list")]
 pub use list::list_decode;
-
+#[cfg(feature = "packet")]
+pub use packet::packet_decode;
+pub use results::{ListResult, PacketResult, ValueResult, WriteResult};
 #[cfg(feature = "stream")]
 pub use stream::stream_next;
+#[cfg(feature = "writers")]
+pub use writers::{list_encode, packet_encode};
 
-#[cfg(feature = "packet")]
-mod packet {
+mod results {
     /// `cinder_packet_result`.
     #[repr(C)]
     #[derive(Clone, Copy, PartialEq, Eq, Debug)]
@@ -23,6 +22,39 @@ mod packet {
         pub error: u64,
         pub consumed: u64,
     }
+
+    /// `cinder_list_result`.
+    #[repr(C)]
+    #[derive(Clone, Copy, PartialEq, Eq, Debug)]
+    pub struct ListResult {
+        pub error: u64,
+        pub consumed: u64,
+        pub rows: u64,
+        pub offset: u64,
+        pub stored: u64,
+    }
+
+    /// `cinder_write_result`.
+    #[repr(C)]
+    #[derive(Clone, Copy, PartialEq, Eq, Debug)]
+    pub struct WriteResult {
+        pub error: u64,
+        pub written: u64,
+    }
+
+    /// `cinder_value_result`.
+    #[repr(C)]
+    #[derive(Clone, Copy, PartialEq, Eq, Debug)]
+    pub struct ValueResult {
+        pub error: u64,
+        pub kind: u64,
+        pub bits: u64,
+    }
+}
+
+#[cfg(feature = "packet")]
+mod packet {
+    use super::PacketResult;
 
     extern "C" {
         fn cinder_packet_decode(
@@ -39,19 +71,6 @@ mod packet {
         unsafe {
             cinder_packet_decode(bytes.as_ptr(), bytes.len(), message.as_mut_ptr(), message.len())
         }
-    }
-}
-
-#[cfg(any(feature = "list", feature = "stream"))]
-mod list_result {
-    /// `cinder_list_result`.
-    #[repr(C)]
-    #[derive(Clone, Copy, PartialEq, Eq, Debug)]
-    pub struct ListResult {
-        pub error: u64,
-        pub consumed: u64,
-        pub rows: u64,
-        pub offset: u64,
     }
 }
 
@@ -114,6 +133,167 @@ mod stream {
                 rows.len(),
                 store.as_mut_ptr(),
                 store.len(),
+            )
+        }
+    }
+}
+
+#[cfg(feature = "hub")]
+mod hub {
+    use super::{PacketResult, ValueResult, WriteResult};
+
+    extern "C" {
+        fn cinder_hub_receive(
+            catalogue: *const u8,
+            catalogue_len: usize,
+            table: *mut u8,
+            table_len: usize,
+            socket: u64,
+            bytes: *const u8,
+            bytes_len: usize,
+        ) -> PacketResult;
+
+        fn cinder_hub_detach(
+            catalogue: *const u8,
+            catalogue_len: usize,
+            table: *mut u8,
+            table_len: usize,
+            socket: u64,
+        ) -> u64;
+
+        fn cinder_hub_publish(
+            catalogue: *const u8,
+            catalogue_len: usize,
+            table: *const u8,
+            table_len: usize,
+            list: *mut u8,
+            list_len: usize,
+        ) -> WriteResult;
+
+        fn cinder_hub_read(
+            catalogue: *const u8,
+            catalogue_len: usize,
+            table: *const u8,
+            table_len: usize,
+            socket: u64,
+            index: u64,
+        ) -> ValueResult;
+    }
+
+    #[inline]
+    pub fn hub_receive(
+        catalogue: &[u8],
+        table: &mut [u8],
+        socket: u64,
+        bytes: &[u8],
+    ) -> PacketResult {
+        // SAFETY: each pointer and length come from one slice.
+        unsafe {
+            cinder_hub_receive(
+                catalogue.as_ptr(),
+                catalogue.len(),
+                table.as_mut_ptr(),
+                table.len(),
+                socket,
+                bytes.as_ptr(),
+                bytes.len(),
+            )
+        }
+    }
+
+    #[inline]
+    pub fn hub_detach(catalogue: &[u8], table: &mut [u8], socket: u64) -> u64 {
+        // SAFETY: each pointer and length come from one slice.
+        unsafe {
+            cinder_hub_detach(
+                catalogue.as_ptr(),
+                catalogue.len(),
+                table.as_mut_ptr(),
+                table.len(),
+                socket,
+            )
+        }
+    }
+
+    #[inline]
+    pub fn hub_publish(catalogue: &[u8], table: &[u8], list: &mut [u8]) -> WriteResult {
+        // SAFETY: each pointer and length come from one slice.
+        unsafe {
+            cinder_hub_publish(
+                catalogue.as_ptr(),
+                catalogue.len(),
+                table.as_ptr(),
+                table.len(),
+                list.as_mut_ptr(),
+                list.len(),
+            )
+        }
+    }
+
+    #[inline]
+    pub fn hub_read(catalogue: &[u8], table: &[u8], socket: u64, index: u64) -> ValueResult {
+        // SAFETY: each pointer and length come from one slice.
+        unsafe {
+            cinder_hub_read(
+                catalogue.as_ptr(),
+                catalogue.len(),
+                table.as_ptr(),
+                table.len(),
+                socket,
+                index,
+            )
+        }
+    }
+}
+
+#[cfg(feature = "writers")]
+mod writers {
+    use super::WriteResult;
+
+    extern "C" {
+        fn cinder_packet_encode(
+            packet_type: u64,
+            payload: *const u8,
+            payload_len: usize,
+            packet: *mut u8,
+            packet_len: usize,
+        ) -> WriteResult;
+
+        fn cinder_list_encode(
+            rows: *const u8,
+            rows_len: usize,
+            store: *const u8,
+            store_len: usize,
+            list: *mut u8,
+            list_len: usize,
+        ) -> WriteResult;
+    }
+
+    #[inline]
+    pub fn packet_encode(packet_type: u64, payload: &[u8], packet: &mut [u8]) -> WriteResult {
+        // SAFETY: each pointer and length come from one slice.
+        unsafe {
+            cinder_packet_encode(
+                packet_type,
+                payload.as_ptr(),
+                payload.len(),
+                packet.as_mut_ptr(),
+                packet.len(),
+            )
+        }
+    }
+
+    #[inline]
+    pub fn list_encode(rows: &[u8], store: &[u8], list: &mut [u8]) -> WriteResult {
+        // SAFETY: each pointer and length come from one slice.
+        unsafe {
+            cinder_list_encode(
+                rows.as_ptr(),
+                rows.len(),
+                store.as_ptr(),
+                store.len(),
+                list.as_mut_ptr(),
+                list.len(),
             )
         }
     }

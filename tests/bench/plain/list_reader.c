@@ -183,6 +183,7 @@ static cinder_list_result decode_at(const uint8_t *bytes, size_t bytes_len, size
     return (cinder_list_result){
         .consumed = judge.at,
         .rows = (uint64_t)(filler.row - rows) / ROW,
+        .stored = filler.used,
     };
 }
 

@@ -166,12 +166,17 @@ static inline uint8_t *put_row(uint8_t *row, uint32_t code, uint32_t second, uin
     return row + ROW;
 }
 
+/* The end of the rows and the bytes of the store in use: two registers. */
+struct filled {
+    uint8_t *rows_end;
+    uint64_t used;
+};
+
 /*
  * Only 256 lists hold lists, and each of their elements follows its code. So a judged
  * list is one series of items with codes, whatever the depth; a typed list is one item.
- * Answers the end of the rows.
  */
-static uint8_t *fill(const uint8_t *at, const uint8_t *end, uint8_t *row, uint8_t *store)
+static struct filled fill(const uint8_t *at, const uint8_t *end, uint8_t *row, uint8_t *store)
 {
     uint32_t used = 0;
     while (at < end) {
@@ -215,7 +220,7 @@ static uint8_t *fill(const uint8_t *at, const uint8_t *end, uint8_t *row, uint8_
             break;
         }
     }
-    return row;
+    return (struct filled){row, used};
 }
 
 static inline cinder_list_result decode_at(const uint8_t *bytes, size_t bytes_len, size_t offset,
@@ -226,10 +231,11 @@ static inline cinder_list_result decode_at(const uint8_t *bytes, size_t bytes_le
     const uint8_t *end = judge_outermost(&judge);
     if (end == NULL)
         return refused(judge.error, (uint64_t)(judge.fault - bytes));
-    uint8_t *rows_end = fill(judge.front, end, rows, store);
+    struct filled filled = fill(judge.front, end, rows, store);
     return (cinder_list_result){
         .consumed = (uint64_t)(end - judge.front),
-        .rows = (uint64_t)(rows_end - rows) / ROW,
+        .rows = (uint64_t)(filled.rows_end - rows) / ROW,
+        .stored = filled.used,
     };
 }
 

@@ -1,7 +1,6 @@
 //! Instructions as callgrind counts them.
 
 use crate::cases::Case;
-use crate::hub;
 use crate::programs::{self, Input};
 use second_reader::generate::{list, replay};
 use second_reader::list::LIST_LIMIT;
@@ -15,8 +14,8 @@ use std::process::{Command, ExitCode, Stdio};
 const TIMES: u64 = 50;
 
 /// Instructions for one call of each side of the case.
-pub fn of_case(case: &Case) -> Result<Vec<f64>, String> {
-    case.sides().iter().map(|side| of_side(case.name, side.name())).collect()
+pub fn of_case(case: &dyn Case) -> Result<Vec<f64>, String> {
+    case.sides().iter().map(|side| of_side(case.name(), side.name())).collect()
 }
 
 fn of_side(name: &str, side: &str) -> Result<f64, String> {
@@ -52,7 +51,6 @@ pub fn as_program(name: &str) -> ExitCode {
     match name {
         "run" => print!("{}", run_output(&input)),
         "replay" => print!("{}", replay_output(&input)),
-        "hub" => print!("{}", hub::output(&input)),
         _ => return ExitCode::from(2),
     }
     ExitCode::SUCCESS
@@ -94,7 +92,7 @@ fn of_program(name: &str, long: &[u8], short: &[u8]) {
 }
 
 /// The instructions of a whole process on this standard input.
-pub fn of_process(program: &Path, words: &[&str], input: &[u8]) -> Result<f64, String> {
+fn of_process(program: &Path, words: &[&str], input: &[u8]) -> Result<f64, String> {
     let input = Input::new(input)?;
     let mut valgrind = Command::new("valgrind");
     valgrind

@@ -1,27 +1,30 @@
-//! Measures the archive's readers against the second reader and against C readers, plain
-//! and tuned by hand, on the same inputs in one run: time for each call, then instructions
-//! for each call as callgrind counts them. For a stream, a call is the reading of all of
-//! it. Buffers are not cleared between calls.
+//! Measures the archive's calls against the second reader, and the readers also against C
+//! readers, plain and tuned by hand, on the same inputs in one run: time for each call, then
+//! instructions for each call as callgrind counts them. For a stream, a call is the reading
+//! of all of it. Buffers are not cleared between calls.
 //!
 //!   bench                            all cases
 //!   bench --no-instructions          time only
 //!   bench --one CASE SIDE TIMES      just those calls, for callgrind; SIDE is reader,
 //!                                    plain, tuned or archive
-//!   bench --hub                      the hub's calls only
-//!   bench --as run|replay|hub        the second reader as that program; hub is bench_hub
+//!   bench --as run|replay            the second reader as that program
 
-#[cfg(not(any(feature = "packet", feature = "list", feature = "stream")))]
-compile_error!("name the calls to measure: --features packet, list, stream");
+#[cfg(not(any(feature = "packet", feature = "list", feature = "stream", feature = "hub")))]
+compile_error!("name the calls to measure: --features packet, list, stream, hub");
 
 mod cases;
+#[cfg(feature = "hub")]
 mod hub;
 mod instructions;
 #[cfg(any(feature = "list", feature = "stream"))]
 mod lists;
-#[cfg(feature = "packet")]
+#[cfg(any(feature = "packet", feature = "hub"))]
 mod packets;
+#[cfg(any(feature = "packet", feature = "list", feature = "stream"))]
 mod plain;
 mod programs;
+#[cfg(any(feature = "packet", feature = "list", feature = "stream"))]
+mod readers;
 
 use cases::{Case, Side};
 use std::process::ExitCode;
@@ -38,13 +41,9 @@ fn main() -> ExitCode {
         [] => table(true),
         ["--no-instructions"] => table(false),
         ["--one", name, side, times] => one(name, side, times),
-        ["--hub"] if hub::table(true) => ExitCode::SUCCESS,
-        ["--hub"] => ExitCode::FAILURE,
         ["--as", program] => instructions::as_program(program),
         _ => {
-            eprintln!(
-                "usage: bench [--no-instructions | --hub | --one CASE SIDE TIMES | --as PROGRAM]"
-            );
+            eprintln!("usage: bench [--no-instructions | --one CASE SIDE TIMES | --as PROGRAM]");
             ExitCode::from(2)
         }
     }
@@ -55,25 +54,20 @@ fn table(with_instructions: bool) -> ExitCode {
     headings("ns");
     for case in &mut cases {
         if !case.sides_agree() {
-            println!("{:<24} the sides differ: nothing to measure", case.name);
+            println!("{:<24} the sides differ: nothing to measure", case.name());
             return ExitCode::FAILURE;
         }
-        let numbers = time(case);
-        line(case, Ok(numbers));
+        let numbers = time(case.as_mut());
+        line(case.as_ref(), Ok(numbers));
     }
     if with_instructions {
         headings("ins");
-        cases.iter().for_each(|case| line(case, instructions::of_case(case)));
-    }
-    let hub_measured = hub::table(with_instructions);
-    if with_instructions {
+        for case in &cases {
+            line(case.as_ref(), instructions::of_case(case.as_ref()));
+        }
         instructions::of_programs();
     }
-    if hub_measured {
-        ExitCode::SUCCESS
-    } else {
-        ExitCode::FAILURE
-    }
+    ExitCode::SUCCESS
 }
 
 /// The sides, and the archive's ratio to each of the others.
@@ -85,8 +79,8 @@ fn headings(unit: &str) {
 }
 
 /// The numbers are those of the case's sides, in their order.
-fn line(case: &Case, numbers: Result<Vec<f64>, String>) {
-    print!("{:<24} {:>5}", case.name, case.bytes.len());
+fn line(case: &dyn Case, numbers: Result<Vec<f64>, String>) {
+    print!("{:<24} {:>5}", case.name(), case.bytes());
     match numbers {
         Ok(numbers) => {
             let at = |wanted| case.sides().iter().position(|&side| side == wanted);
@@ -106,7 +100,7 @@ fn cell(number: Option<f64>, decimals: usize) -> String {
 }
 
 /// Nanoseconds for one call of each side of the case.
-fn time(case: &mut Case) -> Vec<f64> {
+fn time(case: &mut dyn Case) -> Vec<f64> {
     let sides = case.sides();
     let calls: Vec<_> = sides.iter().map(|&side| calls_for_a_sample(case, side)).collect();
     let mut fastest = vec![f64::MAX; sides.len()];
@@ -119,7 +113,7 @@ fn time(case: &mut Case) -> Vec<f64> {
 }
 
 /// How many calls take about the time of one sample.
-fn calls_for_a_sample(case: &mut Case, side: Side) -> u64 {
+fn calls_for_a_sample(case: &mut dyn Case, side: Side) -> u64 {
     let mut calls = 1;
     loop {
         let started = Instant::now();
@@ -131,7 +125,7 @@ fn calls_for_a_sample(case: &mut Case, side: Side) -> u64 {
     }
 }
 
-fn sample(case: &mut Case, side: Side, calls: u64) -> f64 {
+fn sample(case: &mut dyn Case, side: Side, calls: u64) -> f64 {
     let started = Instant::now();
     case.call(side, calls);
     started.elapsed().as_nanos() as f64 / calls as f64
@@ -139,13 +133,13 @@ fn sample(case: &mut Case, side: Side, calls: u64) -> f64 {
 
 /// Calls one side of one case, inside a function that callgrind finds by its name.
 fn one(name: &str, side: &str, times: &str) -> ExitCode {
-    let case = cases::all().into_iter().find(|case| case.name == name);
+    let case = cases::all().into_iter().find(|case| case.name() == name);
     let side = Side::named(side);
     match (case, side, times.parse()) {
         (Some(mut case), Some(side), Ok(times)) if case.sides().contains(&side) => {
             // The first call also finds functions of shared libraries.
             case.call(side, 1);
-            bench_measured(&mut case, side, times);
+            bench_measured(case.as_mut(), side, times);
             ExitCode::SUCCESS
         }
         _ => {
@@ -158,6 +152,6 @@ fn one(name: &str, side: &str, times: &str) -> ExitCode {
 /// The part of the program that is counted.
 #[no_mangle]
 #[inline(never)]
-fn bench_measured(case: &mut Case, side: Side, times: u64) {
+fn bench_measured(case: &mut dyn Case, side: Side, times: u64) {
     case.call(side, times);
 }

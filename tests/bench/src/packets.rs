@@ -1,14 +1,17 @@
-//! The packets that are measured.
+//! The packets that are measured, read alone or received.
 
 use second_reader::packet;
 
+pub fn packet_of(packet_type: u8, payload: &[u8]) -> Vec<u8> {
+    let mut buffer = [0; packet::PACKET_ROOM];
+    let length = packet::encode(packet_type.into(), payload, &mut buffer).expect("a good packet");
+    buffer[..length].to_vec()
+}
+
 /// Packets of each kind; those called full have a payload of 251 bytes.
+#[cfg(feature = "packet")]
 pub fn all() -> Vec<(&'static str, Vec<u8>)> {
-    let of = |packet_type, payload: &[u8]| {
-        let mut buffer = [0; packet::PACKET_ROOM];
-        let length = packet::encode(packet_type, payload, &mut buffer).expect("a good packet");
-        buffer[..length].to_vec()
-    };
+    let of = packet_of;
     let mixed: Vec<u8> = (0..251).map(|at: u8| at % 5).collect();
     vec![
         ("packet-ping", of(packet::PING, &[])),

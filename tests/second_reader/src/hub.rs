@@ -19,26 +19,27 @@ fn judge_table<'a>(catalogue: &'a [u8], table: &Table) -> Result<Catalogue<'a>, 
     Ok(catalogue)
 }
 
+/// The same, with the socket as a row has it.
 fn judge_socket<'a>(
     catalogue: &'a [u8],
     table: &Table,
-    socket: u8,
-) -> Result<Catalogue<'a>, Error> {
+    socket: u64,
+) -> Result<(Catalogue<'a>, u8), Error> {
     let catalogue = judge_table(catalogue, table)?;
-    if socket >= SOCKETS {
+    if socket >= u64::from(SOCKETS) {
         return Err(Error::Socket);
     }
-    Ok(catalogue)
+    Ok((catalogue, socket as u8))
 }
 
 /// Takes the packet at the front of `bytes` from a socket; answers the bytes consumed.
 pub fn receive(
     catalogue: &[u8],
     table: &mut Table,
-    socket: u8,
+    socket: u64,
     bytes: &[u8],
 ) -> Result<usize, Error> {
-    let catalogue = judge_socket(catalogue, table, socket)?;
+    let (catalogue, socket) = judge_socket(catalogue, table, socket)?;
     let mut message = [0; PACKET_ROOM];
     let consumed = packet::decode(bytes, &mut message)?;
     // The message is 3 bytes shorter than the packet, and its last is the checksum.
@@ -125,8 +126,8 @@ fn number(bytes: &[u8]) -> u32 {
 }
 
 /// Empties the slot of the device at a socket.
-pub fn detach(catalogue: &[u8], table: &mut Table, socket: u8) -> Result<(), Error> {
-    judge_socket(catalogue, table, socket)?;
+pub fn detach(catalogue: &[u8], table: &mut Table, socket: u64) -> Result<(), Error> {
+    let (_, socket) = judge_socket(catalogue, table, socket)?;
     let at = table.slot_of(socket).ok_or(Error::NoDevice)?;
     table.slots[at] = Slot::default();
     Ok(())
@@ -154,12 +155,12 @@ impl Value {
 pub fn read_parameter(
     catalogue: &[u8],
     table: &Table,
-    socket: u8,
-    index: u8,
+    socket: u64,
+    index: u64,
 ) -> Result<Option<Value>, Error> {
-    let catalogue = judge_socket(catalogue, table, socket)?;
+    let (catalogue, socket) = judge_socket(catalogue, table, socket)?;
     let slot = &table.slots[table.slot_of(socket).ok_or(Error::NoDevice)?];
-    Ok(value_of(&catalogue, slot, usize::from(index)))
+    Ok(usize::try_from(index).ok().and_then(|index| value_of(&catalogue, slot, index)))
 }
 
 fn value_of(catalogue: &Catalogue, slot: &Slot, index: usize) -> Option<Value> {

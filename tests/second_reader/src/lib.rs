@@ -3,19 +3,20 @@
 //!
 //! Every call judges its whole input first and then fills the lent buffers, so an
 //! error leaves them as they were. No call allocates, apart from those that answer
-//! a program's output as text.
+//! a program's output as text. The module `definition` says the same once more in the
+//! paper's own words, with no regard to speed.
 
+pub mod calls;
 pub mod catalogue;
+pub mod definition;
 pub mod error;
 pub mod generate;
 pub mod hub;
 pub mod list;
 pub mod packet;
 pub mod random;
-mod records;
 pub mod replay;
 pub mod stream;
 pub mod table;
-pub mod write;
 
 pub use error::Error;

@@ -84,13 +84,17 @@ pub struct ListError {
 pub struct Decoded {
     pub consumed: usize,
     pub rows: usize,
+    /// The store bytes in use.
+    pub stored: usize,
 }
 
-/// Error, bytes consumed, rows and offset, as the C call answers them.
-pub fn numbers(answer: Result<Decoded, ListError>) -> [u64; 4] {
+/// Error, bytes consumed, rows, offset and store bytes, as the C call answers them.
+pub fn numbers(answer: Result<Decoded, ListError>) -> [u64; 5] {
     match answer {
-        Ok(Decoded { consumed, rows }) => [0, consumed as u64, rows as u64, 0],
-        Err(ListError { error, offset }) => [error.number(), 0, 0, offset],
+        Ok(Decoded { consumed, rows, stored }) => {
+            [0, consumed as u64, rows as u64, 0, stored as u64]
+        }
+        Err(ListError { error, offset }) => [error.number(), 0, 0, offset, 0],
     }
 }
 
@@ -107,7 +111,7 @@ pub fn decode(bytes: &[u8], rows: &mut [u8], store: &mut [u8]) -> Result<Decoded
     let mut fill = Fill { bytes, at: 0, rows, filled: 0, store, used: 0 };
     let code = fill.word();
     fill.list(code);
-    Ok(Decoded { consumed, rows: fill.filled / ROW_BYTES })
+    Ok(Decoded { consumed, rows: fill.filled / ROW_BYTES, stored: fill.used })
 }
 
 /// An error and its offset, which is at most the limit; small enough for a register.
@@ -366,15 +370,21 @@ fn write_row(row: &mut [u8], code: u32, second: u32, third: u32) {
     row[8..12].copy_from_slice(&third.to_le_bytes());
 }
 
-type Row = [u32; 3];
+type Row = [u8; ROW_BYTES];
 
-/// Writes the list that these rows and store bytes describe to the front of `list`
-/// and answers its length. The rows are given as their numbers, three to a row.
-pub fn encode(rows: &[u32], store: &[u8], list: &mut [u8]) -> Result<usize, Error> {
+/// A row's three numbers.
+#[inline]
+fn numbers_of(row: &Row) -> [u32; 3] {
+    [0, 4, 8].map(|at| word_at(row, at))
+}
+
+/// Writes the list that these rows, 12 bytes each, and store bytes describe to the front
+/// of `list` and answers its length.
+pub fn encode(rows: &[u8], store: &[u8], list: &mut [u8]) -> Result<usize, Error> {
     if list.len() < LIST_LIMIT {
         return Err(Error::BufferTooSmall);
     }
-    let (rows, left_over) = rows.as_chunks::<3>();
+    let (rows, left_over) = rows.as_chunks::<ROW_BYTES>();
     if !left_over.is_empty() || !describe_one_list(rows, store) {
         return Err(Error::NotOneList);
     }
@@ -396,14 +406,15 @@ pub fn encode(rows: &[u32], store: &[u8], list: &mut [u8]) -> Result<usize, Erro
 /// Whether the rows are one list with all that is in it, of any depth and size, and
 /// the store is their strings and blobs back to back.
 fn describe_one_list(rows: &[Row], store: &[u8]) -> bool {
-    if rows.first().is_none_or(|row| row[0] != LIST_CODE) {
+    if rows.first().is_none_or(|row| numbers_of(row)[0] != LIST_CODE) {
         return false;
     }
     // Elements still to come, over all open lists. A sum of counts tells where the
     // outermost list ends, whatever the depth.
     let mut awaited: u64 = 1;
     let mut used = 0;
-    for &[code, second, third] in rows {
+    for row in rows {
+        let [code, second, third] = numbers_of(row);
         if awaited == 0 {
             return false;
         }
@@ -441,7 +452,8 @@ fn stored_at(store: &[u8], used: usize, offset: u32, length: u32) -> Option<&[u8
 fn too_deep(rows: &[Row]) -> bool {
     let mut awaited = [0; DEPTH_LIMIT];
     let mut depth = 0;
-    for &[code, count, _] in rows {
+    for row in rows {
+        let [code, count, _] = numbers_of(row);
         while depth > 0 && awaited[depth - 1] == 0 {
             depth -= 1;
         }
@@ -471,14 +483,14 @@ impl Plan<'_> {
     /// The bytes of the list whose row is next.
     fn list_size(&mut self) -> usize {
         let own = self.next;
-        let count = self.rows[own][1];
+        let [_, count, _] = numbers_of(&self.rows[own]);
         self.next += 1;
         let mut size = LIST_HEADER;
         let mut plain = 0;
         let mut one_kind = true;
-        let first = self.rows.get(self.next).map_or(LIST_CODE, |row| row[0]);
+        let first = self.rows.get(self.next).map_or(LIST_CODE, |row| numbers_of(row)[0]);
         for _ in 0..count {
-            let [code, _, length] = self.rows[self.next];
+            let [code, _, length] = numbers_of(&self.rows[self.next]);
             one_kind &= code == first;
             if code == LIST_CODE {
                 size += self.list_size();
@@ -531,12 +543,12 @@ impl Image<'_> {
     /// The list whose row is next.
     fn list(&mut self) {
         let code = self.codes[self.next];
-        let count = self.rows[self.next][1];
+        let [_, count, _] = numbers_of(&self.rows[self.next]);
         self.next += 1;
         self.word(code);
         self.word(count);
         for _ in 0..count {
-            let row = self.rows[self.next];
+            let row = numbers_of(&self.rows[self.next]);
             if row[0] == LIST_CODE {
                 self.list();
                 continue;
@@ -549,7 +561,7 @@ impl Image<'_> {
         }
     }
 
-    fn element(&mut self, [code, second, third]: Row) {
+    fn element(&mut self, [code, second, third]: [u32; 3]) {
         match Kind::of_code(code) {
             Some(Kind::Float) => {
                 self.word(second);

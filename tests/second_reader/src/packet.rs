@@ -109,10 +109,11 @@ fn fill(encoded: &[u8], message: &mut [u8]) {
 
 /// Writes the packet of this type and payload to the front of `packet` and answers
 /// its length. Only type and payload length are judged, not what the payload says.
-pub fn encode(packet_type: u8, payload: &[u8], packet: &mut [u8]) -> Result<usize, Error> {
+pub fn encode(packet_type: u64, payload: &[u8], packet: &mut [u8]) -> Result<usize, Error> {
     if packet.len() < PACKET_ROOM {
         return Err(Error::BufferTooSmall);
     }
+    let packet_type = u8::try_from(packet_type).map_err(|_| Error::PacketType)?;
     if !payload_allowed(packet_type, payload.len()) {
         return Err(Error::PacketType);
     }

@@ -2,8 +2,9 @@
 
 use crate::hub::{self, Value};
 use crate::list::LIST_LIMIT;
-use crate::records::{hex, line, lines, Bytes};
 use crate::table::{Table, TABLE_BYTES};
+use crate::Error;
+use std::fmt::Write;
 
 /// The most bytes that the replay program reads.
 pub const REPLAY_LIMIT: usize = 65_536;
@@ -25,7 +26,40 @@ pub fn replay_output(input: &[u8]) -> String {
     let catalogue = rest.number().and_then(|length| rest.take(length));
     let Some(catalogue) = catalogue else { return String::new() };
     let mut table = Table::default();
-    lines(rest, |rest| record(rest, catalogue, &mut table))
+    let mut output = String::new();
+    for number in 1.. {
+        if rest.bytes.is_empty() {
+            break;
+        }
+        let Some(line) = record(&mut rest, catalogue, &mut table) else {
+            let _ = writeln!(output, "bad record {number}");
+            break;
+        };
+        let _ = writeln!(output, "{line}");
+    }
+    output
+}
+
+/// The bytes not yet gone through.
+struct Bytes<'a> {
+    bytes: &'a [u8],
+}
+
+impl<'a> Bytes<'a> {
+    fn take(&mut self, length: usize) -> Option<&'a [u8]> {
+        let (front, behind) = self.bytes.split_at_checked(length)?;
+        self.bytes = behind;
+        Some(front)
+    }
+
+    fn byte(&mut self) -> Option<u8> {
+        self.take(1).map(|bytes| bytes[0])
+    }
+
+    /// A two-byte number, low byte first.
+    fn number(&mut self) -> Option<usize> {
+        self.take(2).map(|bytes| usize::from(bytes[0]) + 256 * usize::from(bytes[1]))
+    }
 }
 
 /// The line for the next record, or none for a bad one.
@@ -35,12 +69,12 @@ fn record(rest: &mut Bytes, catalogue: &[u8], table: &mut Table) -> Option<Strin
             let socket = rest.byte()?;
             let length = rest.number()?;
             let packet = rest.take(length)?;
-            let answer = hub::receive(catalogue, table, socket, packet);
+            let answer = hub::receive(catalogue, table, socket.into(), packet);
             Some(line(answer.map(|consumed| format!("took {consumed}"))))
         }
         DETACH => {
             let socket = rest.byte()?;
-            let answer = hub::detach(catalogue, table, socket);
+            let answer = hub::detach(catalogue, table, socket.into());
             Some(line(answer.map(|()| String::from("left"))))
         }
         PUBLISH => {
@@ -51,12 +85,11 @@ fn record(rest: &mut Bytes, catalogue: &[u8], table: &mut Table) -> Option<Strin
         READ_PARAMETER => {
             let socket = rest.byte()?;
             let index = rest.byte()?;
-            let answer = hub::read_parameter(catalogue, table, socket, index);
+            let answer = hub::read_parameter(catalogue, table, socket.into(), index.into());
             Some(line(answer.map(value_text)))
         }
         LOAD_TABLE => {
-            let bytes = rest.take(TABLE_BYTES)?;
-            *table = Table::from_bytes(bytes.try_into().unwrap())?;
+            *table = Table::from_bytes(rest.take(TABLE_BYTES)?)?;
             Some(String::from("loaded"))
         }
         PRINT_TABLE => Some(format!("table {}", hex(&table.to_bytes()))),
@@ -71,4 +104,14 @@ fn value_text(value: Option<Value>) -> String {
         Some(Value::Float(bits)) => format!("float {bits:08x}"),
         Some(Value::Flag(flag)) => format!("flag {}", u8::from(flag)),
     }
+}
+
+fn line(answer: Result<String, Error>) -> String {
+    answer.unwrap_or_else(|error| format!("refused {}", error.number()))
+}
+
+fn hex(bytes: &[u8]) -> String {
+    const DIGITS: &[u8; 16] = b"0123456789abcdef";
+    let digit = |nibble: u8| char::from(DIGITS[usize::from(nibble)]);
+    bytes.iter().flat_map(|&byte| [digit(byte >> 4), digit(byte & 15)]).collect()
 }

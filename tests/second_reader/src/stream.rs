@@ -15,9 +15,9 @@ pub enum Step {
 }
 
 /// The step's numbers as the C call answers them: at the end all are 0.
-pub fn numbers(step: Result<Step, ListError>) -> [u64; 4] {
+pub fn numbers(step: Result<Step, ListError>) -> [u64; 5] {
     list::numbers(step.map(|step| match step {
-        Step::End => Decoded { consumed: 0, rows: 0 },
+        Step::End => Decoded { consumed: 0, rows: 0, stored: 0 },
         Step::List(decoded) => decoded,
     }))
 }
@@ -57,7 +57,7 @@ pub fn run_output(input: &[u8]) -> String {
     let mut offset = 0;
     for number in 1.. {
         match next(input, offset, &mut rows, &mut store) {
-            Ok(Step::List(Decoded { consumed, rows })) => {
+            Ok(Step::List(Decoded { consumed, rows, .. })) => {
                 let _ = writeln!(output, "list {number} bytes {consumed} rows {rows}");
                 offset += consumed as u64;
             }

@@ -5,8 +5,10 @@ use crate::catalogue::{Catalogue, ValueKind, PARAMETER_LIMIT};
 pub const SLOTS: usize = 4;
 pub const SOCKETS: u8 = 8;
 pub const UID_BYTES: usize = 8;
-const SLOT_BYTES: usize = 4 + UID_BYTES + PARAMETER_LIMIT + 4 * PARAMETER_LIMIT;
-/// The bytes of a table as the replay program loads and prints it.
+/// Where in a row's bytes the presence of values stands.
+pub const PRESENCE_AT: usize = 4 + UID_BYTES;
+pub const SLOT_BYTES: usize = PRESENCE_AT + PARAMETER_LIMIT + 4 * PARAMETER_LIMIT;
+/// The bytes of a table as it is lent to the C calls and as the replay program prints it.
 pub const TABLE_BYTES: usize = SLOTS * SLOT_BYTES;
 
 #[derive(Clone, Copy, PartialEq, Eq, Debug, Default)]
@@ -64,9 +66,12 @@ impl Table {
         self.slots.iter().position(|slot| slot.taken && slot.socket == socket)
     }
 
-    /// A table from its bytes, unless a byte that says yes or no is above 1. Whether it
-    /// is lawful is not asked.
-    pub fn from_bytes(bytes: &[u8; TABLE_BYTES]) -> Option<Table> {
+    /// A table from its bytes, unless they are more or fewer than a table has, or a byte
+    /// that says yes or no is above 1. Whether it is lawful is not asked.
+    pub fn from_bytes(bytes: &[u8]) -> Option<Table> {
+        if bytes.len() != TABLE_BYTES {
+            return None;
+        }
         let mut table = Table::default();
         for (slot, part) in table.slots.iter_mut().zip(bytes.chunks(SLOT_BYTES)) {
             let (head, rest) = part.split_at(4);
@@ -98,8 +103,8 @@ impl Table {
                 slot.device_type,
                 slot.year,
             ]);
-            part[4..4 + UID_BYTES].copy_from_slice(&slot.uid);
-            let (presence, bits) = part[4 + UID_BYTES..].split_at_mut(PARAMETER_LIMIT);
+            part[4..PRESENCE_AT].copy_from_slice(&slot.uid);
+            let (presence, bits) = part[PRESENCE_AT..].split_at_mut(PARAMETER_LIMIT);
             for index in 0..PARAMETER_LIMIT {
                 presence[index] = u8::from(slot.present[index]);
                 bits[4 * index..4 * index + 4].copy_from_slice(&slot.bits[index].to_le_bytes());

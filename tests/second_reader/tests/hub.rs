@@ -1,16 +1,18 @@
 //! Catalogue, table and the hub's calls: document 01's bench cases, the readings of its
 //! open points, and what holds for any table.
 
-use second_reader::catalogue::{Catalogue, ValueKind};
+use second_reader::calls;
+use second_reader::catalogue::Catalogue;
+use second_reader::definition::hub as definition;
 use second_reader::generate::list::{image, Element};
 use second_reader::generate::{catalogue as generate_catalogue, packet, table as generate_table};
 use second_reader::hub::{detach, double_of_single, publish, read_parameter, receive, Value};
 use second_reader::list::{decode, LIST_LIMIT, ROWS_ROOM, STORE_ROOM};
 use second_reader::packet::{ACK, DEVICE_DATA, DEVICE_WRITE, LOG, PING};
 use second_reader::random::Random;
-use second_reader::table::{Slot, Table};
+use second_reader::table::{Slot, Table, PRESENCE_AT, SLOT_BYTES, TABLE_BYTES};
 use second_reader::Error;
-use Element::{Blob, Float, Int, List};
+use Element::{Blob, Int, List};
 
 /// Type 7: INT readable, FLOAT writable, BOOL readable.
 const CATALOGUE: [u8; 8] = [0x01, 0x07, 0x03, 0x03, 0x00, 0x04, 0x09, 0x06];
@@ -43,7 +45,7 @@ impl Hub {
         Hub { table: Table::default() }
     }
 
-    fn receive(&mut self, socket: u8, bytes: &[u8]) -> Result<usize, u64> {
+    fn receive(&mut self, socket: u64, bytes: &[u8]) -> Result<usize, u64> {
         let before = self.table;
         let answer = receive(&CATALOGUE, &mut self.table, socket, bytes);
         assert!(answer.is_ok() || self.table == before);
@@ -51,7 +53,7 @@ impl Hub {
         answer.map_err(|error| error.number())
     }
 
-    fn detach(&mut self, socket: u8) -> Result<(), u64> {
+    fn detach(&mut self, socket: u64) -> Result<(), u64> {
         let before = self.table;
         let answer = detach(&CATALOGUE, &mut self.table, socket);
         assert!(answer.is_ok() || self.table == before);
@@ -91,6 +93,8 @@ fn bench_case() {
     assert_eq!(read(2), Ok(Some(Value::Flag(true))));
     assert_eq!(read(31), Ok(None));
     assert_eq!(read(255), Ok(None));
+    assert_eq!(read(256), Ok(None));
+    assert_eq!(read(u64::MAX - 255), Ok(None));
 }
 
 #[test]
@@ -150,7 +154,7 @@ fn order_of_receiving() {
 fn slots_are_taken_in_order_and_again() {
     let mut hub = Hub::new();
     for socket in [5, 0, 7, 2] {
-        assert_eq!(hub.receive(socket, &ack(7, socket)), Ok(16));
+        assert_eq!(hub.receive(socket, &ack(7, socket as u8)), Ok(16));
     }
     let sockets: Vec<u8> = hub.table.slots.iter().map(|slot| slot.socket).collect();
     assert_eq!(sockets, [5, 0, 7, 2]);
@@ -170,6 +174,8 @@ fn slots_are_taken_in_order_and_again() {
     assert_eq!(hub.table.slots[1], Slot::default());
     assert_eq!(hub.detach(0), Err(15));
     assert_eq!(hub.detach(8), Err(10));
+    assert_eq!(hub.detach(256 + 5), Err(10));
+    assert_eq!(hub.detach((1 << 32) + 5), Err(10));
     assert_eq!(hub.receive(4, &ack(7, 0)), Ok(16));
     assert_eq!(hub.table.slots[1].socket, 4);
     // Published in rising socket order.
@@ -303,29 +309,6 @@ fn singles_as_doubles() {
     }
 }
 
-/// The published list by the paper's words, as a tree.
-fn list_by_definition(catalogue: &Catalogue, table: &Table) -> Vec<Element> {
-    let mut slots: Vec<&Slot> = table.slots.iter().filter(|slot| slot.taken).collect();
-    slots.sort_by_key(|slot| slot.socket);
-    let row = |slot: &&Slot| {
-        let mut row =
-            vec![Int(slot.socket.into()), Int(slot.device_type.into()), Blob(slot.uid.to_vec())];
-        for index in 0..32 {
-            if slot.present[index] {
-                let kind =
-                    catalogue.device(slot.device_type).unwrap().parameter(index).unwrap().kind;
-                let value = match kind {
-                    ValueKind::Int | ValueKind::Bool => Int(slot.bits[index]),
-                    ValueKind::Float => Float(double_of_single(slot.bits[index])),
-                };
-                row.push(List(vec![Int(index as u32), value]));
-            }
-        }
-        List(row)
-    };
-    slots.iter().map(row).collect()
-}
-
 #[test]
 fn published_lists_are_legal() {
     let mut random = Random::new(10);
@@ -334,9 +317,10 @@ fn published_lists_are_legal() {
         let parsed = Catalogue::parse(&catalogue).unwrap();
         let table = generate_table::lawful(&mut random, &parsed);
         assert!(table.lawful(&parsed));
-        assert_eq!(Table::from_bytes(&table.to_bytes()), Some(table));
+        let bytes = table.to_bytes();
+        assert_eq!(Table::from_bytes(&bytes), Some(table));
         let list = published(&catalogue, &table);
-        assert_eq!(list, image(&list_by_definition(&parsed, &table)));
+        assert_eq!(list, image(&definition::published(&parsed, &table)));
         let read = decode(&list, &mut [0; ROWS_ROOM], &mut [0; STORE_ROOM]).unwrap();
         assert_eq!(read.consumed, list.len());
     }
@@ -361,4 +345,50 @@ fn damaged_catalogues() {
         .filter(|_| Catalogue::parse(&generate_catalogue::damaged(&mut random)).is_err())
         .count();
     assert!(refused > 3_500, "{refused}");
+}
+
+/// What is no table is judged behind the catalogue, before the socket, and left as it was.
+#[test]
+fn bytes_that_are_no_table() {
+    let all_calls = |catalogue: &[u8], bytes: &[u8]| {
+        let mut table = bytes.to_vec();
+        let mut list = [0xa5; LIST_LIMIT];
+        let answers = [
+            calls::receive(catalogue, &mut table, 8, &[])[0],
+            calls::detach(catalogue, &mut table, 8),
+            calls::read(catalogue, &table, 8, 0)[0],
+            calls::publish(catalogue, &table, &mut list[1..])[0],
+        ];
+        assert_eq!(table, bytes);
+        answers
+    };
+    for length in [0, 1, SLOT_BYTES, TABLE_BYTES - 1, TABLE_BYTES + 1, 2 * TABLE_BYTES] {
+        assert_eq!(all_calls(&CATALOGUE, &vec![0; length]), [9; 4]);
+        assert_eq!(all_calls(&[], &vec![0; length]), [11; 4]);
+    }
+    for at in 0..TABLE_BYTES {
+        let mut bytes = [0; TABLE_BYTES];
+        bytes[at] = 2;
+        assert_eq!(all_calls(&CATALOGUE, &bytes), [9; 4], "{at}");
+    }
+    assert_eq!(all_calls(&CATALOGUE, &[0; TABLE_BYTES]), [10, 10, 10, 20]);
+}
+
+/// The bytes of a row stand where the papers put them.
+#[test]
+fn tables_as_bytes() {
+    let mut table = [0; TABLE_BYTES];
+    assert_eq!(calls::receive(&CATALOGUE, &mut table, 3, &ACK_PACKET), [0, 16]);
+    assert_eq!(calls::receive(&CATALOGUE, &mut table, 3, &DATA_PACKET), [0, 15]);
+    let mut expected = [0; TABLE_BYTES];
+    expected[..PRESENCE_AT].copy_from_slice(&[1, 3, 7, 6, 1, 2, 3, 4, 5, 6, 7, 8]);
+    (expected[12], expected[14]) = (1, 1);
+    (expected[44], expected[52]) = (7, 1);
+    assert_eq!(table, expected);
+    assert_eq!(calls::read(&CATALOGUE, &table, 3, 0), [0, 1, 7]);
+    assert_eq!(calls::read(&CATALOGUE, &table, 3, 1), [0, 0, 0]);
+    assert_eq!(calls::read(&CATALOGUE, &table, 3, 2), [0, 3, 1]);
+    assert_eq!(calls::read(&CATALOGUE, &table, 259, 2), [10, 0, 0]);
+    assert_eq!(calls::detach(&CATALOGUE, &mut table, 3), 0);
+    assert_eq!(table, [0; TABLE_BYTES]);
 }

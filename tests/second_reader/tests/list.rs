@@ -1,22 +1,22 @@
 //! Lists: document 01's bench cases, the readings of its open points, and round trips
 //! on generated trees.
 
+use second_reader::definition::list as definition;
 use second_reader::generate::list::{self as generate, Element};
+use second_reader::generate::writers;
 use second_reader::list::{decode, encode, ListError, LIST_LIMIT, ROWS_ROOM, STORE_ROOM};
 use second_reader::random::Random;
 use second_reader::Error;
+use std::collections::BTreeMap;
+use writers::bytes_of as words;
 use Element::{Blob, Float, Int, List, String, Vocab};
-
-fn words(words: &[u32]) -> Vec<u8> {
-    words.iter().flat_map(|word| word.to_le_bytes()).collect()
-}
 
 fn numbers(rows: &[u8]) -> Vec<u32> {
     rows.chunks(4).map(|word| u32::from_le_bytes(word.try_into().unwrap())).collect()
 }
 
 /// Consumed bytes, row numbers and store bytes; or error number and offset. The store
-/// in use is what the string and blob rows cover.
+/// in use must be what the string and blob rows cover.
 fn read(bytes: &[u8]) -> Result<(usize, Vec<u32>, Vec<u8>), (u64, u64)> {
     let mut rows = [0xa5; ROWS_ROOM];
     let mut store = [0xa5; STORE_ROOM];
@@ -26,6 +26,7 @@ fn read(bytes: &[u8]) -> Result<(usize, Vec<u32>, Vec<u8>), (u64, u64)> {
             let filled = numbers(&rows[..12 * decoded.rows]);
             let stored = filled.chunks(3).filter(|row| row[0] == 4 || row[0] == 12);
             let used = stored.map(|row| row[2] as usize).sum::<usize>();
+            assert_eq!(decoded.stored, used);
             assert!(store[used..].iter().all(|&byte| byte == 0xa5));
             Ok((decoded.consumed, filled, store[..used].to_vec()))
         }
@@ -45,6 +46,10 @@ fn words_fail(given: &[u32], error: u64, offset: u64) {
 }
 
 fn write(rows: &[u32], store: &[u8]) -> Result<Vec<u8>, u64> {
+    write_bytes(&words(rows), store)
+}
+
+fn write_bytes(rows: &[u8], store: &[u8]) -> Result<Vec<u8>, u64> {
     let mut list = [0xa5; LIST_LIMIT];
     match encode(rows, store, &mut list) {
         Ok(length) => {
@@ -220,7 +225,7 @@ fn buffers_are_judged_first() {
     }
     let mut list = [0xa5; 4095];
     assert_eq!(encode(&[], &[], &mut list), Err(Error::BufferTooSmall));
-    assert_eq!(encode(&[256, 0, 0], &[], &mut list), Err(Error::BufferTooSmall));
+    assert_eq!(encode(&words(&[256, 0, 0]), &[], &mut list), Err(Error::BufferTooSmall));
     assert_eq!(list, [0xa5; 4095]);
 }
 
@@ -260,6 +265,12 @@ fn rows_that_are_not_one_list() {
         assert_eq!(write(rows, store), Err(30), "{rows:?} {store:?}");
     }
     assert_eq!(write(&[256, 1, 0, 12, 0, 1], &[0]).map(|list| list.len()), Ok(13));
+    // Rows that are cut inside the last, or followed by less than one.
+    let rows = words(&[256, 0, 0]);
+    for length in 0..rows.len() {
+        assert_eq!(write_bytes(&rows[..length], &[]), Err(30));
+        assert_eq!(write_bytes(&[&rows, &[0; 12][..length]].concat(), &[]).is_ok(), length == 0);
+    }
 }
 
 /// The rows of lists nested to this depth, the innermost empty.
@@ -312,25 +323,6 @@ fn depth_falls_again_behind_a_list() {
     assert_eq!(write(&rows, &store), Err(27));
 }
 
-/// What the writer owes for a tree, by the paper's words about depth and size.
-fn written_by_definition(tree: &[Element]) -> Result<Vec<u8>, u64> {
-    fn depth(elements: &[Element]) -> usize {
-        let inner = |element: &Element| match element {
-            List(inner) => depth(inner),
-            _ => 0,
-        };
-        1 + elements.iter().map(inner).max().unwrap_or(0)
-    }
-    let bytes = generate::image(tree);
-    if depth(tree) > 8 {
-        return Err(27);
-    }
-    if bytes.len() > 4096 {
-        return Err(28);
-    }
-    Ok(bytes)
-}
-
 #[test]
 fn round_trips() {
     let mut random = Random::new(5);
@@ -345,7 +337,7 @@ fn round_trips() {
             _ => generate::legal(&mut random),
         };
         let (rows, store) = generate::rows_and_store(&tree);
-        let expected = written_by_definition(&tree);
+        let expected = definition::write(&words(&rows), &store).map_err(|error| error.number());
         assert_eq!(write(&rows, &store), expected);
         let image = generate::image(&tree);
         match expected {
@@ -369,23 +361,23 @@ fn round_trips() {
 #[test]
 fn what_is_accepted_writes_back() {
     let mut random = Random::new(6);
-    let mut met = [0; 32];
+    let mut met = BTreeMap::new();
     for _ in 0..30_000 {
         let bytes = generate::any(&mut random);
         match read(&bytes) {
             Ok((consumed, rows, store)) => {
-                met[0] += 1;
+                *met.entry(0).or_insert(0) += 1;
                 assert_eq!(write(&rows, &store).unwrap(), bytes[..consumed]);
                 assert!(rows.len() <= 3 * 1023);
             }
             Err((error, offset)) => {
-                met[error as usize] += 1;
+                *met.entry(error).or_insert(0) += 1;
                 assert!(offset <= 4096 && offset <= bytes.len() as u64);
             }
         }
     }
     for error in [0, 21, 22, 23, 24, 25, 26, 27, 28] {
-        assert!(met[error] > 100, "{error}: {met:?}");
+        assert!(met.get(&error).is_some_and(|&times| times > 100), "{error}: {met:?}");
     }
 }
 
@@ -412,120 +404,29 @@ fn every_kind_typed_and_untyped() {
     }
 }
 
-/// Reading item by item as the paper words it, with no short cut for lists of one kind
-/// and no limit on what is looked at ahead of an item.
-struct Definition<'a> {
-    bytes: &'a [u8],
-    at: usize,
-    rows: Vec<u32>,
-    store: Vec<u8>,
-}
-
-impl Definition<'_> {
-    fn read(bytes: &[u8]) -> Result<(usize, Vec<u32>, Vec<u8>), (u64, u64)> {
-        let mut reading = Definition { bytes, at: 0, rows: vec![], store: vec![] };
-        let code = reading.word()?;
-        if !Self::is_list(code) {
-            return Err((22, 0));
-        }
-        reading.list(code, 0, 1)?;
-        Ok((reading.at, reading.rows, reading.store))
-    }
-
-    fn is_kind(code: u32) -> bool {
-        [1, 4, 9, 10, 12].contains(&code)
-    }
-
-    fn is_list(code: u32) -> bool {
-        code == 256 || (code > 256 && Self::is_kind(code - 256))
-    }
-
-    fn item(&mut self, size: usize) -> Result<Vec<u8>, (u64, u64)> {
-        let (start, end) = (self.at, self.at + size);
-        if end > 4096 {
-            return Err((28, start as u64));
-        }
-        if end > self.bytes.len() {
-            return Err((21, start as u64));
-        }
-        self.at = end;
-        Ok(self.bytes[start..end].to_vec())
-    }
-
-    fn word(&mut self) -> Result<u32, (u64, u64)> {
-        self.item(4).map(|bytes| u32::from_le_bytes(bytes.try_into().unwrap()))
-    }
-
-    fn list(&mut self, code: u32, code_at: u64, depth: u32) -> Result<(), (u64, u64)> {
-        let count_at = self.at as u64;
-        let count = self.word()?;
-        if count > i32::MAX as u32 {
-            return Err((23, count_at));
-        }
-        self.rows.extend([256, count, 0]);
-        if code > 256 && count == 0 {
-            return Err((24, code_at));
-        }
-        let mut kinds = std::collections::BTreeSet::new();
-        for _ in 0..count {
-            let element_at = self.at as u64;
-            let element = if code > 256 { code - 256 } else { self.word()? };
-            if Self::is_kind(element) {
-                kinds.insert(element);
-                self.element(element)?;
-            } else if !Self::is_list(element) {
-                return Err((26, element_at));
-            } else if depth == 8 {
-                return Err((27, element_at));
-            } else {
-                kinds.insert(256);
-                self.list(element, element_at, depth + 1)?;
-            }
-        }
-        if code == 256 && kinds.len() == 1 && !kinds.contains(&256) {
-            return Err((24, code_at));
-        }
-        Ok(())
-    }
-
-    fn element(&mut self, code: u32) -> Result<(), (u64, u64)> {
-        let length_at = self.at as u64;
-        let first = self.word_or_float(code)?;
-        match code {
-            1 | 9 => self.rows.extend([code, first as u32, 0]),
-            10 => self.rows.extend([code, first as u32, (first >> 32) as u32]),
-            _ => {
-                let length = first as u32 as i32;
-                if length < i32::from(code == 4) {
-                    return Err((25, length_at));
-                }
-                let run_at = self.at as u64;
-                let mut run = self.item(length as usize)?;
-                if code == 4 && run.iter().position(|&byte| byte == 0) != Some(run.len() - 1) {
-                    return Err((25, run_at));
-                }
-                run.truncate(run.len() - usize::from(code == 4));
-                self.rows.extend([code, self.store.len() as u32, run.len() as u32]);
-                self.store.extend(run);
-            }
-        }
-        Ok(())
-    }
-
-    /// The 8 bytes of a float; else the number that an element begins with.
-    fn word_or_float(&mut self, code: u32) -> Result<u64, (u64, u64)> {
-        match code {
-            10 => self.item(8).map(|bytes| u64::from_le_bytes(bytes.try_into().unwrap())),
-            _ => self.word().map(u64::from),
-        }
-    }
-}
-
 #[test]
 fn reads_as_defined() {
     let mut random = Random::new(13);
     for _ in 0..20_000 {
         let bytes = generate::any(&mut random);
-        assert_eq!(read(&bytes), Definition::read(&bytes), "{bytes:02x?}");
+        let expected = definition::read(&bytes);
+        let expected = expected.map(|read| (read.consumed, read.rows, read.store));
+        let expected = expected.map_err(|fault| (fault.error.number(), fault.offset));
+        assert_eq!(read(&bytes), expected, "{bytes:02x?}");
+    }
+}
+
+#[test]
+fn writes_as_defined() {
+    let mut random = Random::new(15);
+    let mut met = BTreeMap::new();
+    for _ in 0..10_000 {
+        let (rows, store) = writers::any_list(&mut random);
+        let expected = definition::write(&rows, &store).map_err(|error| error.number());
+        *met.entry(*expected.as_ref().err().unwrap_or(&0)).or_insert(0) += 1;
+        assert_eq!(write_bytes(&rows, &store), expected, "{rows:02x?} {store:02x?}");
+    }
+    for number in [0, 27, 28, 30] {
+        assert!(met.get(&number).is_some_and(|&times| times > 100), "{number}: {met:?}");
     }
 }

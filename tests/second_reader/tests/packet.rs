@@ -1,10 +1,12 @@
 //! Packets: document 01's bench cases, the readings of its open points, and round
 //! trips on generated inputs.
 
-use second_reader::generate::packet as generate;
+use second_reader::definition::packet as definition;
+use second_reader::generate::{packet as generate, writers};
 use second_reader::packet::{decode, encode, payload_allowed, ACK, LOG, PACKET_ROOM, PING};
 use second_reader::random::Random;
 use second_reader::Error;
+use std::collections::BTreeMap;
 
 const PING_PACKET: [u8; 6] = [0x00, 0x04, 0x02, 0x01, 0x02, 0x01];
 const ACK_PACKET: [u8; 16] = [
@@ -30,9 +32,9 @@ fn read(bytes: &[u8]) -> Result<(usize, Vec<u8>), Error> {
 }
 
 /// Writes into a buffer of exact room and answers the packet.
-fn write(packet_type: u8, payload: &[u8]) -> Result<Vec<u8>, Error> {
+fn write(packet_type: impl Into<u64>, payload: &[u8]) -> Result<Vec<u8>, Error> {
     let mut buffer = [0xa5; PACKET_ROOM];
-    match encode(packet_type, payload, &mut buffer) {
+    match encode(packet_type.into(), payload, &mut buffer) {
         Ok(length) => {
             assert!(buffer[length..].iter().all(|&byte| byte == 0xa5));
             Ok(buffer[..length].to_vec())
@@ -55,7 +57,7 @@ fn bench_cases() {
     assert_eq!(read(&DATA_PACKET), Ok((15, vec![4, 9, 5, 0, 0, 0, 7, 0, 0, 0, 1, 14])));
     assert_eq!(write(PING, &[]), Ok(PING_PACKET.to_vec()));
     assert_eq!(write(ACK, &[7, 6, 1, 2, 3, 4, 5, 6, 7, 8]), Ok(ACK_PACKET.to_vec()));
-    assert_eq!(write(4, &[5, 0, 0, 0, 7, 0, 0, 0, 1]), Ok(DATA_PACKET.to_vec()));
+    assert_eq!(write(4_u64, &[5, 0, 0, 0, 7, 0, 0, 0, 1]), Ok(DATA_PACKET.to_vec()));
 }
 
 #[test]
@@ -87,7 +89,7 @@ fn buffer_is_judged_first() {
         let mut buffer = vec![0xa5; length];
         assert_eq!(decode(&PING_PACKET, &mut buffer), Err(Error::BufferTooSmall));
         assert_eq!(decode(&[], &mut buffer), Err(Error::BufferTooSmall));
-        assert_eq!(encode(PING, &[], &mut buffer), Err(Error::BufferTooSmall));
+        assert_eq!(encode(PING.into(), &[], &mut buffer), Err(Error::BufferTooSmall));
         assert_eq!(encode(9, &[], &mut buffer), Err(Error::BufferTooSmall));
         assert!(buffer.iter().all(|&byte| byte == 0xa5));
     }
@@ -113,12 +115,15 @@ fn payload_lengths_of_each_type() {
     assert_eq!(counts, [0, 1, 1, 129, 129, 252, 0]);
     assert_eq!(write(PING, &[1]), Err(Error::PacketType));
     assert_eq!(write(ACK, &[1; 9]), Err(Error::PacketType));
-    assert_eq!(write(3, &[1; 3]), Err(Error::PacketType));
-    assert_eq!(write(4, &[1; 133]), Err(Error::PacketType));
+    assert_eq!(write(3_u64, &[1; 3]), Err(Error::PacketType));
+    assert_eq!(write(4_u64, &[1; 133]), Err(Error::PacketType));
     assert_eq!(write(LOG, &[1; 252]), Err(Error::PacketType));
     assert_eq!(write(LOG, &[1; 300]), Err(Error::PacketType));
+    for above in [256 + 1, (1 << 32) + 1, u64::MAX - 254] {
+        assert_eq!(write(above, &[]), Err(Error::PacketType));
+    }
     // A map that promises values which are not there is no concern of the writer.
-    assert!(write(4, &[0xff; 4]).is_ok());
+    assert!(write(4_u64, &[0xff; 4]).is_ok());
 }
 
 #[test]
@@ -155,70 +160,26 @@ fn what_is_accepted_writes_back() {
     assert!(accepted > 10_000);
 }
 
-/// The message of an encoded part block by block, as the paper words it.
-fn message_by_blocks(encoded: &[u8]) -> Option<Vec<u8>> {
-    let mut message = Vec::new();
-    let mut rest = encoded;
-    while let Some((&code, behind)) = rest.split_first() {
-        let block = usize::from(code) - 1;
-        if block > behind.len() {
-            return None;
-        }
-        message.extend(&behind[..block]);
-        rest = &behind[block..];
-        if !rest.is_empty() {
-            message.push(0);
-        }
-    }
-    Some(message)
-}
-
-fn read_by_definition(bytes: &[u8]) -> Result<(usize, Vec<u8>), Error> {
-    if bytes.is_empty() {
-        return Err(Error::PacketIncomplete);
-    }
-    if bytes[0] != 0 {
-        return Err(Error::FirstByteNotZero);
-    }
-    if bytes.len() == 1 {
-        return Err(Error::PacketIncomplete);
-    }
-    let length = usize::from(bytes[1]);
-    if length < 4 {
-        return Err(Error::LengthBelowFour);
-    }
-    let encoded: Vec<u8> = bytes[2..].iter().copied().take(length).collect();
-    if encoded.contains(&0) {
-        return Err(Error::ZeroEncoded);
-    }
-    if encoded.len() < length {
-        return Err(Error::PacketIncomplete);
-    }
-    let message = message_by_blocks(&encoded).ok_or(Error::BlockPassesEnd)?;
-    let (checksum, before) = message.split_last().unwrap();
-    if usize::from(message[1]) != message.len() - 3 {
-        return Err(Error::PayloadLength);
-    }
-    if before.iter().fold(0, |sum, byte| sum ^ byte) != *checksum {
-        return Err(Error::Checksum);
-    }
-    if !payload_allowed(message[0], message.len() - 3) {
-        return Err(Error::PacketType);
-    }
-    Ok((length + 2, message))
-}
-
 #[test]
 fn reads_as_defined() {
     let mut random = Random::new(3);
-    let mut met = [0; 32];
+    let mut met = BTreeMap::new();
     for _ in 0..100_000 {
         let bytes = generate::any(&mut random);
-        let expected = read_by_definition(&bytes);
-        met[expected.as_ref().map_or_else(|error| error.number(), |_| 0) as usize] += 1;
+        let expected = definition::read(&bytes);
+        *met.entry(expected.as_ref().map_or_else(|error| error.number(), |_| 0)).or_insert(0) += 1;
         assert_eq!(read(&bytes), expected, "{bytes:02x?}");
     }
-    assert!(met[..9].iter().all(|&times| times > 100), "{met:?}");
+    assert!((0..=8).all(|number| met.get(&number).is_some_and(|&times| times > 100)), "{met:?}");
+}
+
+#[test]
+fn writes_as_defined() {
+    let mut random = Random::new(14);
+    for _ in 0..20_000 {
+        let (packet_type, payload) = writers::any_packet(&mut random);
+        assert_eq!(write(packet_type, &payload), definition::write(packet_type, &payload));
+    }
 }
 
 #[test]

@@ -1,14 +1,11 @@
 //! Streams of lists: steps, and what the run program prints.
 
+use second_reader::generate::writers::bytes_of as words;
 use second_reader::generate::{list, stream as generate};
 use second_reader::list::{decode, Decoded, ListError, ROWS_ROOM, STORE_ROOM};
 use second_reader::random::Random;
 use second_reader::stream::{next, run_output, Step};
 use second_reader::Error;
-
-fn words(words: &[u32]) -> Vec<u8> {
-    words.iter().flat_map(|word| word.to_le_bytes()).collect()
-}
 
 /// The primes followed by the two-list example.
 fn examples() -> Vec<u8> {
@@ -124,7 +121,8 @@ fn lists_end_to_end() {
         for (tree, image) in trees.iter().zip(&images) {
             let (numbers, stored) = list::rows_and_store(tree);
             let step = next(&bytes, offset, &mut rows, &mut store);
-            let sizes = Decoded { consumed: image.len(), rows: numbers.len() / 3 };
+            let sizes =
+                Decoded { consumed: image.len(), rows: numbers.len() / 3, stored: stored.len() };
             assert_eq!(step, Ok(Step::List(sizes)));
             assert_eq!(rows[..4 * numbers.len()], words(&numbers)[..]);
             assert_eq!(store[..stored.len()], stored[..]);

@@ -1,97 +1,107 @@
 -- `attach::assign` meets its contract, by the tests that lead to each answer.
+use Prim.Native.Nat.{ℕ}
+use mathlib.Core.Path.{_≡_, sym, _∙_}
+use mathlib.Core.Bool.{Bool}
+use mathlib.Core.List.{List}
 use borrow.Author.Needs.{needs}
-use borrow.Author.Tests.{eq-eqb, ne-eqb}
-use Rattle.table.proofs.Answers.{refused-change}
-use Rattle.attach.specs.Attach.{assigned}
+use borrow.Author.Tests.{not-true, not-false}
+use Rattle.catalogue.specs.Lookup.{deviceOf}
+use Rattle.catalogue.specs.declared.Device.{Device}
+use Rattle.attach.specs.Attach.{deviceIn, uidIn, uidFree}
+use Rattle.attach.proofs.Facts.{uid-elsewhere}
+use Rattle.attach.proofs.Acks.{unknown-ack, uid-taken-ack, no-slot-ack, ack-accepts}
 use Rattle.attach.proofs.assign.Statement.{statement}
 use Rattle.attach.proofs.assign.Tie as tie
 
-no-change-requires : tie.Need-no-change-requires
-no-change-requires c κs = search needs
+-- what is read of the payload leads to the two tests of the definition
+known-is :
+    (c payload : List ℕ) {device : ℕ} {d : Device} {b : Bool} → device ≡ deviceIn payload → d ≡ deviceOf c device → d .known ≡ b →
+    deviceOf c (deviceIn payload) .known ≡ b
+known-is c payload p q e = rw (← p, ← q, e)
+
+free-is :
+    (slots : ℕ) (t : List ℕ) (socket : ℕ) (payload : List ℕ) {uid : ℕ} {f b : Bool} → uid ≡ uidIn payload →
+    f ≡ uidFree slots t socket uid → f ≡ b → uidFree slots t socket (uidIn payload) ≡ b
+free-is slots t socket payload p q e = rw (← p, ← q, e)
 
 returns : tie.Need-returns
-returns c = rw (ne-eqb _ _ (c .before .if1 .taken)) (refused-change _ (c .no-change .result) _ _ (c .no-change .ensures))
-
-byte-at-requires : tie.Need-byte-at-requires
-byte-at-requires c κs = search needs
-
-byte-at-requires-2 : tie.Need-byte-at-requires-2
-byte-at-requires-2 c κs = search needs
-
-u64-at-requires : tie.Need-u64-at-requires
-u64-at-requires c κs = search needs
-
-find-device-requires : tie.Need-find-device-requires
-find-device-requires c κs = search needs
-
-is-uid-free-requires : tie.Need-is-uid-free-requires
-is-uid-free-requires c κs = search needs
-
-find-place-requires : tie.Need-find-place-requires
-find-place-requires c κs = search needs
-
-place-row-requires : tie.Need-place-row-requires
-place-row-requires c κs = search needs
+returns c =
+    let d = c .before .before in
+    let byte = d .before .before .before in
+    let a = byte .before .before .before .before .args in
+    let k = known-is (a .c .now) (a .payload .now) (byte .byte-at .ensures) (d .find-device .ensures) (not-true _ (c .if1 .taken)) in
+    sym (unknown-ack (a .slots) (a .c .now) (a .t .now) (a .socket) (a .payload .now) k)
 
 returns-2 : tie.Need-returns-2
-unfolding assigned
 returns-2 c =
-    rw (
-      eq-eqb _ _ (c .before .before .before .before .before .before .before .before .before .if1 .left),
-      ← c .before .before .before .before .before .before .before .before .byte-at .ensures,
-      ← c .before .before .before .before .before .before .before .byte-at2 .ensures,
-      ← c .before .before .before .before .before .before .u64-at .ensures,
-      ← c .before .before .before .before .before .find-device .ensures,
-      c .before .before .before .before .if2 .taken,
-      ← c .before .before .before .is-uid-free .ensures,
-      c .before .before .if3 .taken,
-      ← c .before .find-place .ensures .0,
-    ) (c .place-row .ensures .0 _, c .place-row .ensures .1, c .place-row .ensures .2)
-
-no-change-requires-2 : tie.Need-no-change-requires-2
-no-change-requires-2 c κs = search needs
+    let u = c .before in
+    let test = u .before .before in
+    let d = test .before .before in
+    let uid = d .before in
+    let byte = uid .before .before in
+    let a = byte .before .before .before .before .args in
+    let k = known-is (a .c .now) (a .payload .now) (byte .byte-at .ensures) (d .find-device .ensures) (not-false _ (test .if1 .left)) in
+    let f =
+    free-is (a .slots) (a .t .now) (a .socket) (a .payload .now) (uid .u64-at .ensures) (u .is-uid-free .ensures) (not-true _ (c .if2 .taken)) in
+    sym
+    (uid-taken-ack (a .slots) (a .c .now) (a .t .now) (a .socket) (a .payload .now) k
+    (uid-elsewhere (a .slots) (a .t .now) (a .socket) (uidIn (a .payload .now)) .0 f))
 
 returns-3 : tie.Need-returns-3
-unfolding assigned
 returns-3 c =
-    rw (
-      eq-eqb _ _ (c .before .before .before .before .before .before .before .before .if1 .left),
-      ← c .before .before .before .before .before .before .before .byte-at .ensures,
-      ← c .before .before .before .before .before .u64-at .ensures,
-      ← c .before .before .before .before .find-device .ensures,
-      c .before .before .before .if2 .taken,
-      ← c .before .before .is-uid-free .ensures,
-      c .before .if3 .left,
-    ) (refused-change _ (c .no-change2 .result) _ _ (c .no-change2 .ensures))
-
-no-change-requires-3 : tie.Need-no-change-requires-3
-no-change-requires-3 c κs = search needs
+    let put = c .before .before in
+    let new = put .before .before in
+    let at = new .before .before in
+    let found = at .before .before in
+    let second = found .before .before in
+    let u = second .before in
+    let test = u .before .before in
+    let d = test .before .before in
+    let uid = d .before in
+    let byte = uid .before .before in
+    let a = byte .before .before .before .before .args in
+    let k = known-is (a .c .now) (a .payload .now) (byte .byte-at .ensures) (d .find-device .ensures) (not-false _ (test .if1 .left)) in
+    let f =
+    free-is (a .slots) (a .t .now) (a .socket) (a .payload .now) (uid .u64-at .ensures) (u .is-uid-free .ensures) (not-false _ (second .if2 .left)) in
+    let accepts =
+    ack-accepts (a .slots) (a .c .now) (a .t .now) (a .socket) (a .payload .now) k _ f (sym (found .find-place .ensures) ∙ at .p .given .1) in
+    rw (accepts, put .put-slot .ensures, new .new-slot .ensures, byte .byte-at .ensures, uid .before .byte-at2 .ensures, uid .u64-at .ensures)
 
 returns-4 : tie.Need-returns-4
-unfolding assigned
 returns-4 c =
-    rw (
-      eq-eqb _ _ (c .before .before .before .before .before .before .if1 .left),
-      ← c .before .before .before .before .before .byte-at .ensures,
-      ← c .before .before .find-device .ensures,
-      c .before .if2 .left,
-    ) (refused-change _ (c .no-change3 .result) _ _ (c .no-change3 .ensures))
+    let found = c .before .before in
+    let second = found .before .before in
+    let u = second .before in
+    let test = u .before .before in
+    let d = test .before .before in
+    let uid = d .before in
+    let byte = uid .before .before in
+    let a = byte .before .before .before .before .args in
+    let k = known-is (a .c .now) (a .payload .now) (byte .byte-at .ensures) (d .find-device .ensures) (not-false _ (test .if1 .left)) in
+    let f =
+    free-is (a .slots) (a .t .now) (a .socket) (a .payload .now) (uid .u64-at .ensures) (u .is-uid-free .ensures) (not-false _ (second .if2 .left)) in
+    sym
+    (no-slot-ack (a .slots) (a .c .now) (a .t .now) (a .socket) (a .payload .now) k f
+    (sym (found .find-place .ensures) ∙ c .enum-told .given .1))
 
 pub assign-spec : {M : Type 1} → statement M
 assign-spec =
     tie.close
     (tie.spec
-    no-change-requires
+    (λ c κs. search needs)
+    (λ c κs. search needs)
+    (λ c κs. search needs)
+    (λ c κs. search needs)
     returns
-    byte-at-requires
-    byte-at-requires-2
-    u64-at-requires
-    find-device-requires
-    is-uid-free-requires
-    find-place-requires
-    place-row-requires
+    (λ c κs. search needs)
+    (λ c. search needs)
     returns-2
-    no-change-requires-2
+    (λ c κs. search needs)
+    (λ c. search needs)
+    (λ c κs. search needs)
+    (λ c κs. search needs)
+    (λ c. search needs)
+    (λ c. search needs)
     returns-3
-    no-change-requires-3
+    (λ c. search needs)
     returns-4)

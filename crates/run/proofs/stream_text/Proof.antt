@@ -41,9 +41,10 @@ here : (c : After-line)
     (c .before .before .before .before .before .before .before .before .before .before .before .before .before .before .before .before .before .before .before .args .bytes .now)
     (c .before .before .before .before .before .before .before .before .before .before .before .before .before .before .loop .offset)
     (c .before .before .before .before .before .step .given .0 .0) (c .before .before .before .before .before .step .given .0 .1 .0)
+    (c .before .before .before .before .before .step .given .0 .1 .1 .0)
 here c =
     let l = c .before .before .before .before .before .before .before .before .before .before .before .before .before .before .loop in
-    list-found _ (l .offset) _ _ _ _ _ _ _ (l .inv .1) (l .inv .2) (l .inv .4)
+    list-found _ (l .offset) _ _ _ _ _ _ _ _ (l .inv .1) (l .inv .2) (l .inv .4)
     (c .before .before .before .before .before .before .before .before .before .before .before .before .before .before .before .before .before .before .shared-slice-known .given)
     (c .before .before .before .before .before .before .before .before .before .before .before .next .ensures)
     (c .before .before .before .before .before .step .given .1)
@@ -88,7 +89,7 @@ loop-again c =
     let l = c .before .before .before .before .before .before .before .before .before .before .before .before .before .before .loop in
     let found = here c in
     let text = text-list (a .bytes .now) (l .offset) (l .k) (l .used) (l .text) _ (textOf (a .bytes .now)) _ (omega arith) (l .inv .8)
-    _ _ (found .found) (c .before .before .list-line .ensures .0) in
+    _ _ _ (found .found) (c .before .before .list-line .ensures .0) in
     (search needs, search needs, search needs, search needs, search needs, search needs, search needs, search needs, text)
 
 enum-told : tie.Need-enum-told Inv-loop μ-loop

@@ -2,12 +2,13 @@
 //! papers' own wording, apart from the readers and writers of this library.
 
 pub mod catalogue;
+pub mod hub;
 pub mod list;
 pub mod packet;
 pub mod replay;
 pub mod stream;
 pub mod table;
-pub mod write;
+pub mod writers;
 
 use crate::random::Random;
 

@@ -40,8 +40,8 @@ loop-again c =
     let t = stage-turn (l .loop .inv .1) some (w .put-element .ensures) in
     (t .stands .inside, t)
 
-cast-result : tie.Need-cast-result Inv-loop μ-loop
-cast-result c = omega (arith, stage-small (c .before .loop .inv .1))
+cast-count : tie.Need-cast-count Inv-loop μ-loop
+cast-count c = omega (arith, stage-small (c .before .loop .inv .1))
 
 same-length : tie.Need-same-length Inv-loop μ-loop
 same-length c = c .before .loop .inv .1 .rest .rows-left .size
@@ -66,7 +66,7 @@ fill-spec =
     put-element-requires
     loop-less
     loop-again
-    cast-result
+    cast-count
     same-length
     same-length-2
     returns)

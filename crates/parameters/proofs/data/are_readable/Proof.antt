@@ -6,9 +6,10 @@ use mathlib.Core.Path.{_≡_, refl, sym, _∙_}
 use native.Mathlib.Omega.{arith}
 use lib.Dec.{eqb}
 use borrow.Author.Needs.{needs}
-use Rattle.table.specs.Slots.{paramCount}
 use Rattle.wire.proofs.Chains.{every-all, every-more, every-stop}
 use Rattle.wire.specs.Every.{every}
+use Rattle.slot.specs.Slot.{paramCount}
+use Rattle.slot.specs.Row.{slotOf}
 use Rattle.parameters.specs.Data.{allReadable, named, readableIf}
 use Rattle.parameters.proofs.ByBytes.{readable-by}
 use Rattle.parameters.proofs.Steps.{rest-more, rest-none}
@@ -16,39 +17,34 @@ use Rattle.parameters.proofs.data.are_readable.Statement.{statement}
 use Rattle.parameters.proofs.data.are_readable.Tie as tie
 
 abbrev Inv-loop : tie.InvT-loop
-Inv-loop c device map bytes rest₀ p₀ rest p =
-    (p ≤ paramCount) × (rest ≡ map / 2 ^ p) × (every p (λ q. readableIf c device q (named map q)) ≡ true)
+Inv-loop c row map bytes rest₀ p₀ rest p =
+    (p ≤ paramCount) × (rest ≡ map / 2 ^ p) × (every p (λ q. readableIf c (slotOf row) q (named map q)) ≡ true)
 
 abbrev μ-loop : tie.MeasureT-loop
-μ-loop c device map bytes rest₀ p₀ rest p = paramCount - p
+μ-loop c row map bytes rest₀ p₀ rest p = paramCount - p
 
 loop-holds : tie.Need-loop-holds Inv-loop μ-loop
 unfolding every
 loop-holds c = (omega arith, rest-none _, refl)
 
-array-read-is-readable-if : tie.Need-array-read-is-readable-if Inv-loop μ-loop
-array-read-is-readable-if c = search needs
-
-is-readable-if-requires : tie.Need-is-readable-if-requires Inv-loop μ-loop
-is-readable-if-requires c κs = search needs
-
-add-p : tie.Need-add-p Inv-loop μ-loop
-add-p c = search needs
-
-loop-less : tie.Need-loop-less Inv-loop μ-loop
-loop-less c = search needs
-
 loop-again : tie.Need-loop-again Inv-loop μ-loop
-loop-again c = (
-  omega arith,
-  rw (rest-more, ← c .before .before .before .loop .inv .1),
-  every-more _ _ (c .before .before .before .loop .inv .2) (rw (← c .before .before .before .loop .inv .1) (sym (c .before .is-readable-if .ensures ∙ readable-by (c .before .before .before .before .before .args .device) (c .before .before .before .before .before .pre) (c .before .before .before .loop .p) (omega arith) (eqb (c .before .before .before .loop .rest % 2) 1)) ∙ c .if1 .taken)),
-)
+loop-again c =
+    let l = c .before .before .before .loop in
+    let start = c .before .before .before .before .before .before in
+    let test = readable-by (slotOf (start .args .row .now)) (start .pre) (l .p) (omega arith) (eqb (l .rest % 2) 1) in (
+      omega arith,
+      rw (rest-more, ← l .inv .1),
+      every-more _ _ (l .inv .2) (rw (← l .inv .1) (sym (c .before .is-readable-if .ensures ∙ test) ∙ c .if1 .taken)),
+    )
 
 returns : tie.Need-returns Inv-loop μ-loop
 unfolding allReadable
 returns c =
-    every-stop paramCount (c .before .before .before .loop .p) _ (c .before .before .loop-test .taken) (rw (← c .before .before .before .loop .inv .1) (sym (c .before .is-readable-if .ensures ∙ readable-by (c .before .before .before .before .before .args .device) (c .before .before .before .before .before .pre) (c .before .before .before .loop .p) (omega arith) (eqb (c .before .before .before .loop .rest % 2) 1)) ∙ c .if1 .left))
+    let l = c .before .before .before .loop in
+    let start = c .before .before .before .before .before .before in
+    let test = readable-by (slotOf (start .args .row .now)) (start .pre) (l .p) (omega arith) (eqb (l .rest % 2) 1) in
+    every-stop paramCount (l .p) _ (c .before .before .loop-test .taken)
+    (rw (← l .inv .1) (sym (c .before .is-readable-if .ensures ∙ test) ∙ c .if1 .left))
 
 returns-2 : tie.Need-returns-2 Inv-loop μ-loop
 unfolding allReadable
@@ -61,10 +57,10 @@ are-readable-spec =
     Inv-loop
     μ-loop
     loop-holds
-    array-read-is-readable-if
-    is-readable-if-requires
-    add-p
-    loop-less
+    (λ c. search needs)
+    (λ c κs. search needs)
+    (λ c. search needs)
+    (λ c. search needs)
     loop-again
     returns
     returns-2)

@@ -1,70 +1,70 @@
 -- `parameters::data::change_row` meets its contract: judged first, then stored.
-use mathlib.Core.Path.{refl}
+use mathlib.Core.Path.{sym, ap, _∙_}
+use native.Mathlib.Omega.{arith}
 use borrow.Author.Needs.{needs}
-use Rattle.table.specs.Slots.{emptyTable}
-use Rattle.table.specs.declared.Place.the-variants.{Nowhere}
-use Rattle.table.proofs.Answers.{refused-change}
+use borrow.Author.Tests.{not-true, not-false}
+use Rattle.table.specs.Change.{verdictOf}
+use Rattle.parameters.proofs.Rows.{row-length, changed-no-row, changed-accepted, changed-refused}
 use Rattle.parameters.proofs.data.change_row.Statement.{statement}
 use Rattle.parameters.proofs.data.change_row.Tie as tie
 
-find-device-requires : tie.Need-find-device-requires
-find-device-requires c κs = search needs
+returns : tie.Need-returns
+returns c =
+    let a = c .before .before .before .before .before .before .args in
+    changed-no-row (a .c .now) (a .row .now) (a .payload .now) (sym (c .before .is-row .ensures) ∙ not-true _ (c .if1 .taken))
 
-parameter-bytes-requires : tie.Need-parameter-bytes-requires
-parameter-bytes-requires c κs = search needs
+slice-read-find-device : tie.Need-slice-read-find-device
+slice-read-find-device c =
+    let row = c .before .before .before .before .before .before .before .args .row .now in
+    omega (arith, row-length row (sym (c .before .before .is-row .ensures) ∙ not-false _ (c .before .if1 .left)))
 
 judge-requires : tie.Need-judge-requires
-judge-requires c κs = rw (c .before .find-device .ensures) at (c .parameter-bytes .ensures)
-
-enum-told : tie.Need-enum-told
-enum-told c = search needs
-
-u32-at-requires : tie.Need-u32-at-requires
-u32-at-requires c κs = search needs
+judge-requires c κs = rw (c .before .before .find-device .ensures) at (c .before .parameter-bytes .ensures)
 
 store-requires : tie.Need-store-requires
-store-requires c κs = rw (c .before .before .before .before .before .find-device .ensures) at (c .before .before .before .before .parameter-bytes .ensures)
-
-returns : tie.Need-returns
-returns c = (
-  λ t.
-      rw (
-        ← c .before .before .before .before .judge .ensures,
-        c .before .before .enum-told .given .1,
-        ← c .before .u32-at .ensures,
-        c .store .ensures,
-      ),
-  search needs,
-  λ accepted. refl,
-)
-
-enum-known-a : tie.Need-enum-known-a
-enum-known-a c = search needs
-
-no-change-requires : tie.Need-no-change-requires
-no-change-requires c κs = search needs
+store-requires c κs =
+    let found = c .before .before .before .before .before .before in (
+      rw (found .before .find-device .ensures) at (found .parameter-bytes .ensures),
+      sym (found .before .before .before .before .is-row .ensures) ∙ not-false _ (found .before .before .before .if1 .left),
+    )
 
 returns-2 : tie.Need-returns-2
 returns-2 c =
-    let kept = refused-change emptyTable (c .no-change .result) _ _ (c .no-change .ensures) in (
-      λ t.
-          rw (← c .before .before .before .before .judge .ensures, c .before .before .a .given .1)
-          (refused-change t (c .no-change .result) _ Nowhere (c .no-change .ensures) .0),
-      kept .1,
-      kept .2,
-    )
+    let told = c .before .before .before .before .before in
+    let judge = told .before .before in
+    let tested = judge .before .before .before .before .before in
+    let a = tested .before .before .before .before .before .before .args in
+    let is-row = sym (tested .before .is-row .ensures) ∙ not-false _ (tested .if1 .left) in
+    let verdict = sym (judge .judge .ensures) ∙ ap verdictOf (told .enum-told .given .1) in
+    changed-accepted (a .c .now) (a .row .now) (a .payload .now) is-row verdict (c .before .before .before .u32-at .ensures)
+    (c .before .before .store .ensures)
+
+returns-3 : tie.Need-returns-3
+returns-3 c =
+    let told = c .before in
+    let judge = told .before .before in
+    let tested = judge .before .before .before .before .before in
+    let a = tested .before .before .before .before .before .before .args in
+    let is-row = sym (tested .before .is-row .ensures) ∙ not-false _ (tested .if1 .left) in
+    let verdict = sym (judge .judge .ensures) ∙ ap verdictOf (told .a .given .1) in
+    changed-refused (a .c .now) (a .row .now) (a .payload .now) is-row verdict
 
 pub change-row-spec : {M : Type 1} → statement M
 change-row-spec =
     tie.close
     (tie.spec
-    find-device-requires
-    parameter-bytes-requires
-    judge-requires
-    enum-told
-    u32-at-requires
-    store-requires
+    (λ c κs. search needs)
+    (λ c. search needs)
     returns
-    enum-known-a
-    no-change-requires
-    returns-2)
+    slice-read-find-device
+    (λ c κs. search needs)
+    (λ c κs. search needs)
+    judge-requires
+    (λ c. search needs)
+    (λ c κs. search needs)
+    store-requires
+    (λ c. search needs)
+    (λ c. search needs)
+    returns-2
+    (λ c. search needs)
+    returns-3)

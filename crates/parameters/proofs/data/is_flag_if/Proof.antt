@@ -6,12 +6,6 @@ use Rattle.catalogue.specs.declared.Parameter.{Parameter}
 use Rattle.parameters.proofs.data.is_flag_if.Statement.{statement}
 use Rattle.parameters.proofs.data.is_flag_if.Tie as tie
 
-describe-requires : tie.Need-describe-requires
-describe-requires c κs = search needs
-
-value-at-requires : tie.Need-value-at-requires
-value-at-requires c κs = search needs
-
 returns : tie.Need-returns
 returns c =
     rw (
@@ -34,4 +28,4 @@ returns-3 c = rw (ne-eqb _ _ (c .if1 .left))
 
 pub is-flag-if-spec : {M : Type 1} → statement M
 is-flag-if-spec =
-    tie.close (tie.spec describe-requires value-at-requires returns returns-2 returns-3)
+    tie.close (tie.spec (λ c κs. search needs) (λ c κs. search needs) returns returns-2 returns-3)

@@ -5,18 +5,6 @@ use Rattle.parameters.specs.Data.{judged}
 use Rattle.parameters.proofs.data.judge.Statement.{statement}
 use Rattle.parameters.proofs.data.judge.Tie as tie
 
-u32-at-requires : tie.Need-u32-at-requires
-u32-at-requires c κs = search needs
-
-are-readable-requires : tie.Need-are-readable-requires
-are-readable-requires c κs = search needs
-
-size-of-requires : tie.Need-size-of-requires
-size-of-requires c κs = search needs
-
-are-flags-requires : tie.Need-are-flags-requires
-are-flags-requires c κs = search needs
-
 returns : tie.Need-returns
 unfolding judged
 returns c =
@@ -62,10 +50,10 @@ pub judge-spec : {M : Type 1} → statement M
 judge-spec =
     tie.close
     (tie.spec
-    u32-at-requires
-    are-readable-requires
-    size-of-requires
-    are-flags-requires
+    (λ c κs. search needs)
+    (λ c κs. search needs)
+    (λ c κs. search needs)
+    (λ c κs. search needs)
     returns
     returns-2
     returns-3

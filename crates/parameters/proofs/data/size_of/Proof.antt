@@ -5,8 +5,9 @@ use mathlib.Core.Path.{_≡_, refl, sym, _∙_}
 use native.Mathlib.Omega.{arith}
 use lib.Dec.{eqb}
 use borrow.Author.Needs.{needs}
-use Rattle.table.specs.Slots.{paramCount}
-use Rattle.parameters.specs.Data.{offsetOf, sizeOf}
+use Rattle.slot.specs.Slot.{paramCount}
+use Rattle.slot.specs.Row.{slotOf}
+use Rattle.parameters.specs.Data.{mapBytes, offsetOf, sizeOf}
 use Rattle.parameters.proofs.ByBytes.{span-by}
 use Rattle.parameters.proofs.Rests.{bit-below, offset-rest}
 use Rattle.parameters.proofs.Steps.{offset-more, rest-more, rest-none}
@@ -14,43 +15,40 @@ use Rattle.parameters.proofs.data.size_of.Statement.{statement}
 use Rattle.parameters.proofs.data.size_of.Tie as tie
 
 abbrev Inv-loop : tie.InvT-loop
-Inv-loop c device map bytes rest₀ at₀ p₀ rest at p =
-    (p ≤ paramCount) × (rest ≡ map / 2 ^ p) × (at ≡ offsetOf c device map p) × (at ≤ 4 + 4 * p)
+Inv-loop c row map bytes rest₀ at₀ p₀ rest at p =
+    (p ≤ paramCount) × (rest ≡ map / 2 ^ p) × (at ≡ offsetOf c (slotOf row) map p) × (at ≤ mapBytes + 4 * p)
 
 abbrev μ-loop : tie.MeasureT-loop
-μ-loop c device map bytes rest₀ at₀ p₀ rest at p = rest
+μ-loop c row map bytes rest₀ at₀ p₀ rest at p = rest
 
 loop-holds : tie.Need-loop-holds Inv-loop μ-loop
 unfolding offsetOf
 loop-holds c = (omega arith, rest-none _, refl, omega arith)
 
 array-read-span-if : tie.Need-array-read-span-if Inv-loop μ-loop
-array-read-span-if c = bit-below (c .before .before .before .args .map) (omega arith) (c .before .loop .inv .0) (c .before .loop .inv .1) (c .loop-test .taken)
-
-span-if-requires : tie.Need-span-if-requires Inv-loop μ-loop
-span-if-requires c κs = search needs
-
-add-at : tie.Need-add-at Inv-loop μ-loop
-add-at c = search needs
-
-add-p : tie.Need-add-p Inv-loop μ-loop
-add-p c = search needs
-
-loop-less : tie.Need-loop-less Inv-loop μ-loop
-loop-less c = search needs
+array-read-span-if c =
+    let l = c .before .loop in
+    let start = c .before .before .before .before in
+    bit-below (start .args .map) (omega arith) (l .inv .0) (l .inv .1) (c .loop-test .taken)
 
 loop-again : tie.Need-loop-again Inv-loop μ-loop
 loop-again c =
-    let below = bit-below (c .before .before .before .before .args .map) (omega arith) (c .before .before .loop .inv .0) (c .before .before .loop .inv .1) (c .before .loop-test .taken) in (
+    let l = c .before .before .loop in
+    let start = c .before .before .before .before .before in
+    let below = bit-below (start .args .map) (omega arith) (l .inv .0) (l .inv .1) (c .before .loop-test .taken) in
+    let span = span-by (slotOf (start .args .row .now)) (start .pre) (l .p) (omega arith) (eqb (l .rest % 2) 1) in (
       omega arith,
-      rw (rest-more, ← c .before .before .loop .inv .1),
-      rw (offset-more, ← c .before .before .loop .inv .1, ← span-by (c .before .before .before .before .args .device) (c .before .before .before .before .pre) (c .before .before .loop .p) (omega arith) (eqb (c .before .before .loop .rest % 2) 1), ← c .span-if .ensures .0, ← c .before .before .loop .inv .2),
+      rw (rest-more, ← l .inv .1),
+      rw (offset-more, ← l .inv .1, ← span, ← c .span-if .ensures .0, ← l .inv .2),
       omega arith,
     )
 
 returns : tie.Need-returns Inv-loop μ-loop
 unfolding sizeOf
-returns c = c .before .loop .inv .2 ∙ sym (offset-rest (c .before .before .before .args .map) (c .before .loop .inv .0) (c .before .loop .inv .1) (c .loop-test .left) _ _)
+returns c =
+    let l = c .before .loop in
+    let start = c .before .before .before .before in
+    l .inv .2 ∙ sym (offset-rest (start .args .map) (l .inv .0) (l .inv .1) (c .loop-test .left) _ _)
 
 pub size-of-spec : {M : Type 1} → statement M
 size-of-spec =
@@ -60,9 +58,9 @@ size-of-spec =
     μ-loop
     loop-holds
     array-read-span-if
-    span-if-requires
-    add-at
-    add-p
-    loop-less
+    (λ c κs. search needs)
+    (λ c. search needs)
+    (λ c. search needs)
+    (λ c. search needs)
     loop-again
     returns)

@@ -7,44 +7,10 @@ use borrow.Author.Needs.{needs}
 use Rattle.wire.proofs.Buffers.{put-is, put-joined}
 use Rattle.list.specs.Kind.{listCode}
 use Rattle.list.specs.Bytes.{number}
-use Rattle.list.specs.Tree.{list}
 use Rattle.publish.proofs.Stores.{put-as}
 use Rattle.publish.proofs.Pieces.{double-pair}
 use Rattle.publish.proofs.parameter.put_double_pair.Statement.{statement}
 use Rattle.publish.proofs.parameter.put_double_pair.Tie as tie
-
-put-two-u32-requires : tie.Need-put-two-u32-requires
-put-two-u32-requires c κs = search needs
-
-add-put-two-u32 : tie.Need-add-put-two-u32
-add-put-two-u32 c = search needs
-
-put-two-u32-requires-2 : tie.Need-put-two-u32-requires-2
-put-two-u32-requires-2 c κs = search needs
-
-add-put-u32 : tie.Need-add-put-u32
-add-put-u32 c = search needs
-
-put-u32-requires : tie.Need-put-u32-requires
-put-u32-requires c κs = search needs
-
-add-put-two-u32-2 : tie.Need-add-put-two-u32-2
-add-put-two-u32-2 c = search needs
-
-cast-put-two-u32 : tie.Need-cast-put-two-u32
-cast-put-two-u32 c = search needs
-
-cast-put-two-u32-2 : tie.Need-cast-put-two-u32-2
-cast-put-two-u32-2 c = search needs
-
-put-two-u32-requires-3 : tie.Need-put-two-u32-requires-3
-put-two-u32-requires-3 c κs = search needs
-
-add-result : tie.Need-add-result
-add-result c = search needs
-
-same-length : tie.Need-same-length
-same-length c = search needs
 
 returns : tie.Need-returns
 returns c =
@@ -73,15 +39,15 @@ pub put-double-pair-spec : {M : Type 1} → statement M
 put-double-pair-spec =
     tie.close
     (tie.spec
-    put-two-u32-requires
-    add-put-two-u32
-    put-two-u32-requires-2
-    add-put-u32
-    put-u32-requires
-    add-put-two-u32-2
-    cast-put-two-u32
-    cast-put-two-u32-2
-    put-two-u32-requires-3
-    add-result
-    same-length
+    (λ c κs. search needs)
+    (λ c. search needs)
+    (λ c κs. search needs)
+    (λ c. search needs)
+    (λ c κs. search needs)
+    (λ c. search needs)
+    (λ c. search needs)
+    (λ c. search needs)
+    (λ c κs. search needs)
+    (λ c. search needs)
+    (λ c. search needs)
     returns)

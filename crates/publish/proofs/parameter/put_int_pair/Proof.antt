@@ -13,24 +13,6 @@ use Rattle.publish.proofs.Pieces.{int-pair}
 use Rattle.publish.proofs.parameter.put_int_pair.Statement.{statement}
 use Rattle.publish.proofs.parameter.put_int_pair.Tie as tie
 
-add-put-two-u32 : tie.Need-add-put-two-u32
-add-put-two-u32 c = search needs
-
-put-two-u32-requires : tie.Need-put-two-u32-requires
-put-two-u32-requires c κs = search needs
-
-add-put-two-u32-2 : tie.Need-add-put-two-u32-2
-add-put-two-u32-2 c = search needs
-
-put-two-u32-requires-2 : tie.Need-put-two-u32-requires-2
-put-two-u32-requires-2 c κs = search needs
-
-add-result : tie.Need-add-result
-add-result c = search needs
-
-same-length : tie.Need-same-length
-same-length c = search needs
-
 returns : tie.Need-returns
 returns c =
     let c₄ = c .before .before .before .before in
@@ -49,10 +31,10 @@ pub put-int-pair-spec : {M : Type 1} → statement M
 put-int-pair-spec =
     tie.close
     (tie.spec
-    add-put-two-u32
-    put-two-u32-requires
-    add-put-two-u32-2
-    put-two-u32-requires-2
-    add-result
-    same-length
+    (λ c. search needs)
+    (λ c κs. search needs)
+    (λ c. search needs)
+    (λ c κs. search needs)
+    (λ c. search needs)
+    (λ c. search needs)
     returns)

@@ -15,124 +15,112 @@ use Rattle.publish.proofs.Pieces.{int-size, double-size, put-value}
 use Rattle.publish.proofs.parameter.put_parameter.Statement.{statement}
 use Rattle.publish.proofs.parameter.put_parameter.Tie as tie
 
-enum-known-v : tie.Need-enum-known-v
-enum-known-v c = search needs
-
-bits-of-requires : tie.Need-bits-of-requires
-bits-of-requires c κs = search needs
-
 put-int-pair-requires : tie.Need-put-int-pair-requires
 unfolding elementOf
 put-int-pair-requires c κs =
-    let e = int-size (c .before .before .before .before .before .before .args .index) _ (elementOf (c .before .before .before .before .before .before .args .v)) (ap elementOf (c .before .before .before .v .given .1)) in
-    omega (arith, e, c .before .before .before .before .before .before .pre .1)
-
-enum-known-v-2 : tie.Need-enum-known-v-2
-enum-known-v-2 c = search needs
+    let c₃ = c .before .before .before in
+    let start = c₃ .before .before .before in
+    let e = int-size (start .args .index) _ (elementOf (start .args .v)) (ap elementOf (c₃ .v .given .1)) in
+    omega (arith, e, start .pre .1)
 
 float-to-float-put-double-pair : tie.Need-float-to-float-put-double-pair
 unfolding NoNan
 float-to-float-put-double-pair c =
-    and-i (fits binary64 (c .before .before .before .v2 .given .0 .0)) (not (isNan (c .before .before .before .v2 .given .0 .0))) (fits-widens (c .before .before .before .v2 .given .0 .0) (c .row-known .given)) (rw (c .before .before .before .v2 .given .1) at (c .before .before .before .before .before .before .pre .0))
+    let c₃ = c .before .before .before in
+    let x = c₃ .v2 .given .0 .0 in
+    and-i (fits binary64 x) (not (isNan x)) (fits-widens x (c .row-known .given)) (rw (c₃ .v2 .given .1) at (c₃ .before .before .before .pre .0))
 
 float-to-bits-put-double-pair : tie.Need-float-to-bits-put-double-pair
 unfolding NoNan
-float-to-bits-put-double-pair c = rw (c .before .before .before .v2 .given .1) at (c .before .before .before .before .before .before .pre .0)
+float-to-bits-put-double-pair c = let c₃ = c .before .before .before in rw (c₃ .v2 .given .1) at (c₃ .before .before .before .pre .0)
 
 put-double-pair-requires : tie.Need-put-double-pair-requires
 unfolding elementOf
 put-double-pair-requires c κs =
-    let e = double-size (c .before .before .before .before .before .before .args .index) _ (elementOf (c .before .before .before .before .before .before .args .v)) (ap elementOf (c .before .before .before .v2 .given .1)) in
-    omega (arith, e, c .before .before .before .before .before .before .pre .1)
-
-enum-known-v-3 : tie.Need-enum-known-v-3
-enum-known-v-3 c = search needs
-
-flag-bits-requires : tie.Need-flag-bits-requires
-flag-bits-requires c κs = search needs
+    let c₃ = c .before .before .before in
+    let start = c₃ .before .before .before in
+    let e = double-size (start .args .index) _ (elementOf (start .args .v)) (ap elementOf (c₃ .v2 .given .1)) in
+    omega (arith, e, start .pre .1)
 
 put-int-pair-requires-2 : tie.Need-put-int-pair-requires-2
 unfolding elementOf
 put-int-pair-requires-2 c κs =
-    let e = int-size (c .before .before .before .before .before .before .args .index) _ (elementOf (c .before .before .before .before .before .before .args .v)) (ap elementOf (c .before .before .before .v3 .given .1)) in
-    omega (arith, e, c .before .before .before .before .before .before .pre .1)
-
-enum-known-v-4 : tie.Need-enum-known-v-4
-enum-known-v-4 c = search needs
-
-widen-requires : tie.Need-widen-requires
-widen-requires c κs = search needs
+    let c₃ = c .before .before .before in
+    let start = c₃ .before .before .before in
+    let e = int-size (start .args .index) _ (elementOf (start .args .v)) (ap elementOf (c₃ .v3 .given .1)) in
+    omega (arith, e, start .pre .1)
 
 put-double-pair-requires-2 : tie.Need-put-double-pair-requires-2
 unfolding elementOf
 put-double-pair-requires-2 c κs =
-    let e = double-size (c .before .before .before .before .before .before .args .index) _ (elementOf (c .before .before .before .before .before .before .args .v)) (ap elementOf (c .before .before .before .v4 .given .1)) in
-    omega (arith, e, c .before .before .before .before .before .before .pre .1)
-
-same-length : tie.Need-same-length
-same-length c = search needs
+    let c₃ = c .before .before .before in
+    let start = c₃ .before .before .before in
+    let e = double-size (start .args .index) _ (elementOf (start .args .v)) (ap elementOf (c₃ .v4 .given .1)) in
+    omega (arith, e, start .pre .1)
 
 returns : tie.Need-returns
 unfolding elementOf
 returns c =
-    let z = c .before .before .before .before .before .before .v .given .0 .0 in
+    let c₃ = c .before .before .before in
+    let c₆ = c₃ .before .before .before in
+    let a = c₆ .before .before .before .args in
+    let z = c₆ .v .given .0 .0 in
     let h : SFits w32 z = search needs in
-    put-value (c .before .before .before .before .before .before .before .before .before .args .index) (int (c .before .before .before .bits-of .result)) (elementOf (c .before .before .before .before .before .before .before .before .before .args .v))
-    (ap int (c .before .before .before .bits-of .ensures ∙ ap (ofZ w32) (toZ-ofZ h)) ∙ sym (ap elementOf (c .before .before .before .before .before .before .v .given .1)))
+    put-value (a .index) (int (c₃ .int-bits .result)) (elementOf (a .v))
+    (ap int (c₃ .int-bits .ensures ∙ ap (ofZ w32) (toZ-ofZ h)) ∙ sym (ap elementOf (c₆ .v .given .1)))
     (c .before .before .put-int-pair .ensures)
-
-same-length-2 : tie.Need-same-length-2
-same-length-2 c = search needs
 
 returns-2 : tie.Need-returns-2
 unfolding elementOf
 returns-2 c =
-    put-value (c .before .before .before .before .before .before .before .before .before .args .index) (double (toBits binary64 (c .before .before .before .before .before .before .v2 .given .0 .0))) (elementOf (c .before .before .before .before .before .before .before .before .before .args .v))
-    (sym (ap elementOf (c .before .before .before .before .before .before .v2 .given .1)))
+    let c₆ = c .before .before .before .before .before .before in
+    let a = c₆ .before .before .before .args in
+    put-value (a .index) (double (toBits binary64 (c₆ .v2 .given .0 .0))) (elementOf (a .v))
+    (sym (ap elementOf (c₆ .v2 .given .1)))
     (c .before .before .put-double-pair .ensures)
-
-same-length-3 : tie.Need-same-length-3
-same-length-3 c = search needs
 
 returns-3 : tie.Need-returns-3
 unfolding elementOf
 returns-3 c =
-    put-value (c .before .before .before .before .before .before .before .before .before .args .index) (int (c .before .before .before .flag-bits .result)) (elementOf (c .before .before .before .before .before .before .before .before .before .args .v))
-    (ap int (c .before .before .before .flag-bits .ensures) ∙ sym (ap elementOf (c .before .before .before .before .before .before .v3 .given .1)))
+    let c₃ = c .before .before .before in
+    let c₆ = c₃ .before .before .before in
+    let a = c₆ .before .before .before .args in
+    put-value (a .index) (int (c₃ .flag-bits .result)) (elementOf (a .v))
+    (ap int (c₃ .flag-bits .ensures) ∙ sym (ap elementOf (c₆ .v3 .given .1)))
     (c .before .before .put-int-pair2 .ensures)
-
-same-length-4 : tie.Need-same-length-4
-same-length-4 c = search needs
 
 returns-4 : tie.Need-returns-4
 unfolding elementOf
 returns-4 c =
-    put-value (c .before .before .before .before .before .before .before .before .before .args .index) (double (c .before .before .before .widen .result)) (elementOf (c .before .before .before .before .before .before .before .before .before .args .v))
-    (ap double (c .before .before .before .widen .ensures) ∙ sym (ap elementOf (c .before .before .before .before .before .before .v4 .given .1)))
+    let c₃ = c .before .before .before in
+    let c₆ = c₃ .before .before .before in
+    let a = c₆ .before .before .before .args in
+    put-value (a .index) (double (c₃ .widen .result)) (elementOf (a .v))
+    (ap double (c₃ .widen .ensures) ∙ sym (ap elementOf (c₆ .v4 .given .1)))
     (c .before .before .put-double-pair2 .ensures)
 
 pub put-parameter-spec : {M : Type 1} → statement M
 put-parameter-spec =
     tie.close
     (tie.spec
-    enum-known-v
-    bits-of-requires
+    (λ c. search needs)
+    (λ c κs. search needs)
     put-int-pair-requires
-    enum-known-v-2
+    (λ c. search needs)
     float-to-float-put-double-pair
     float-to-bits-put-double-pair
     put-double-pair-requires
-    enum-known-v-3
-    flag-bits-requires
+    (λ c. search needs)
+    (λ c κs. search needs)
     put-int-pair-requires-2
-    enum-known-v-4
-    widen-requires
+    (λ c. search needs)
+    (λ c κs. search needs)
     put-double-pair-requires-2
-    same-length
+    (λ c. search needs)
     returns
-    same-length-2
+    (λ c. search needs)
     returns-2
-    same-length-3
+    (λ c. search needs)
     returns-3
-    same-length-4
+    (λ c. search needs)
     returns-4)

@@ -5,9 +5,6 @@ use Rattle.publish.proofs.Pieces.{device-size, device-put}
 use Rattle.publish.proofs.rows.put_device.Statement.{statement}
 use Rattle.publish.proofs.rows.put_device.Tie as tie
 
-add-put-parameters : tie.Need-add-put-parameters
-add-put-parameters c = search needs
-
 put-parameters-requires : tie.Need-put-parameters-requires
 put-parameters-requires c κs = let a = c .before .before .before .args in omega (arith, device-size (a .c .now) (a .s), c .before .before .before .pre)
 
@@ -16,9 +13,6 @@ put-front-requires c κs =
     let a = c .before .before .before .before .before .before .before .args in
     let x = c .before .before .before .put-parameters in
     (omega (arith, device-size (a .c .now) (a .s), c .before .before .before .before .before .before .before .pre, x .kept), x .ensures .2)
-
-same-length : tie.Need-same-length
-same-length c = search needs
 
 returns : tie.Need-returns
 returns c =
@@ -29,4 +23,4 @@ returns c =
 pub put-device-spec : {M : Type 1} → statement M
 put-device-spec =
     tie.close
-    (tie.spec add-put-parameters put-parameters-requires put-front-requires same-length returns)
+    (tie.spec (λ c. search needs) put-parameters-requires put-front-requires (λ c. search needs) returns)

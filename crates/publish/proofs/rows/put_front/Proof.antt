@@ -8,43 +8,9 @@ use Rattle.wire.specs.Number.{leBytes}
 use Rattle.wire.proofs.Buffers.{put-joined}
 use Rattle.list.specs.Kind.{listCode}
 use Rattle.list.specs.Bytes.{number}
-use Rattle.publish.specs.Published.{device}
 use Rattle.publish.specs.Put.{front}
 use Rattle.publish.proofs.rows.put_front.Statement.{statement}
 use Rattle.publish.proofs.rows.put_front.Tie as tie
-
-add-put-two-u32 : tie.Need-add-put-two-u32
-add-put-two-u32 c = search needs
-
-put-two-u32-requires : tie.Need-put-two-u32-requires
-put-two-u32-requires c κs = search needs
-
-add-put-two-u32-2 : tie.Need-add-put-two-u32-2
-add-put-two-u32-2 c = search needs
-
-cast-put-two-u32 : tie.Need-cast-put-two-u32
-cast-put-two-u32 c = search needs
-
-put-two-u32-requires-2 : tie.Need-put-two-u32-requires-2
-put-two-u32-requires-2 c κs = search needs
-
-add-put-two-u32-3 : tie.Need-add-put-two-u32-3
-add-put-two-u32-3 c = search needs
-
-cast-put-two-u32-2 : tie.Need-cast-put-two-u32-2
-cast-put-two-u32-2 c = search needs
-
-put-two-u32-requires-3 : tie.Need-put-two-u32-requires-3
-put-two-u32-requires-3 c κs = search needs
-
-add-put-uid : tie.Need-add-put-uid
-add-put-uid c = search needs
-
-put-uid-requires : tie.Need-put-uid-requires
-put-uid-requires c κs = search needs
-
-same-length : tie.Need-same-length
-same-length c = search needs
 
 returns : tie.Need-returns
 unfolding front
@@ -69,15 +35,15 @@ pub put-front-spec : {M : Type 1} → statement M
 put-front-spec =
     tie.close
     (tie.spec
-    add-put-two-u32
-    put-two-u32-requires
-    add-put-two-u32-2
-    cast-put-two-u32
-    put-two-u32-requires-2
-    add-put-two-u32-3
-    cast-put-two-u32-2
-    put-two-u32-requires-3
-    add-put-uid
-    put-uid-requires
-    same-length
+    (λ c. search needs)
+    (λ c κs. search needs)
+    (λ c. search needs)
+    (λ c. search needs)
+    (λ c κs. search needs)
+    (λ c. search needs)
+    (λ c. search needs)
+    (λ c κs. search needs)
+    (λ c. search needs)
+    (λ c κs. search needs)
+    (λ c. search needs)
     returns)

@@ -6,10 +6,9 @@ use native.Mathlib.Omega.{arith}
 use borrow.Author.Needs.{needs}
 use Rattle.value.specs.Meaning.{valueOf}
 use Rattle.value.proofs.Values.{value-same}
-use Rattle.table.specs.Slots.{paramCount}
-use Rattle.table.specs.Lawful.{bitsAt}
+use Rattle.slot.specs.Slot.{paramCount, bitsAt}
 use Rattle.publish.specs.Published.{elementOf, parametersFrom}
-use Rattle.publish.proofs.Bits.{no-nan}
+use Rattle.publish.proofs.Values.{no-nan}
 use Rattle.publish.proofs.Pieces.{parameters-held, parameters-absent, parameters-end, put-value, bytes-of, held-is}
 use Rattle.publish.proofs.Loops.{Left, left-all, left-as, left-at, left-room, left-put, left-none}
 use Rattle.publish.proofs.rows.put_parameters.Statement.{statement}
@@ -22,78 +21,42 @@ Inv-loop c buffer₀ at s bytes end₀ count₀ p₀ buffer end count p =
 abbrev μ-loop : tie.MeasureT-loop
 μ-loop c buffer₀ at s bytes end₀ count₀ p₀ buffer end count p = paramCount - p
 
-find-device-requires : tie.Need-find-device-requires Inv-loop μ-loop
-find-device-requires c κs = search needs
-
-parameter-bytes-requires : tie.Need-parameter-bytes-requires Inv-loop μ-loop
-parameter-bytes-requires c κs = search needs
-
 loop-holds : tie.Need-loop-holds Inv-loop μ-loop
 loop-holds c = (omega arith, omega arith, left-all _ _ _)
 
-element-copy-out-if1 : tie.Need-element-copy-out-if1 Inv-loop μ-loop
-element-copy-out-if1 c = search needs
-
-array-read-describe : tie.Need-array-read-describe Inv-loop μ-loop
-array-read-describe c = search needs
-
-describe-requires : tie.Need-describe-requires Inv-loop μ-loop
-describe-requires c κs = search needs
-
-mul-value-of : tie.Need-mul-value-of Inv-loop μ-loop
-mul-value-of c = search needs
-
-element-copy-out-value-of : tie.Need-element-copy-out-value-of Inv-loop μ-loop
-element-copy-out-value-of c = search needs
-
-value-of-requires : tie.Need-value-of-requires Inv-loop μ-loop
-value-of-requires c κs = search needs
-
-cast-put-parameter : tie.Need-cast-put-parameter Inv-loop μ-loop
-cast-put-parameter c = search needs
-
 put-parameter-requires : tie.Need-put-parameter-requires Inv-loop μ-loop
 put-parameter-requires c κs =
-    let start = c .before .before .before .before .before .before .before .before .before .before .before .before in
+    let c₃ = c .before .before .before in
+    let c₈ = c₃ .before .before .before .before .before in
+    let start = c₈ .before .before .before .before in
     let a = start .args in
-    let l = c .before .before .before .before .before .before .before .loop in
-    let q = c .before .before .before .describe in
+    let l = c₃ .before .before .before .before .loop in
+    let q = c₃ .describe in
     let e = value-same (c .before .value-of .result) (valueOf (q .result .kind) (bitsAt (a .t2) (l .p))) (c .before .value-of .ensures) in
-    let b = bytes-of (a .c .now) (a .t2 .device) (c .before .before .before .before .before .before .before .before .before .find-device .ensures) (c .before .before .before .before .before .before .before .before .parameter-bytes .ensures) in
-    let v = held-is (a .c .now) (a .t2) (l .p) b (omega arith) (q .ensures) e in (
-      rw e (no-nan (q .result .kind) (bitsAt (a .t2) (l .p))),
-      rw v (left-room (left-as (parameters-held (a .c .now) (a .t2) (l .p) (omega arith) (c .before .before .before .before .if1 .taken)) (l .inv .2)) (start .pre)),
-    )
-
-add-count : tie.Need-add-count Inv-loop μ-loop
-add-count c = search needs
-
-add-p : tie.Need-add-p Inv-loop μ-loop
-add-p c = search needs
-
-loop-less : tie.Need-loop-less Inv-loop μ-loop
-loop-less c = search needs
+    let b = bytes-of (a .c .now) (a .t2 .device) (c₈ .before .find-device .ensures) (c₈ .parameter-bytes .ensures) in
+    let v = held-is (a .c .now) (a .t2) (l .p) b (omega arith) (q .ensures) e in
+    let held = parameters-held (a .c .now) (a .t2) (l .p) (omega arith) (c₃ .before .if1 .taken) in
+    (rw e (no-nan (q .result .kind) (bitsAt (a .t2) (l .p))), rw v (left-room (left-as held (l .inv .2)) (start .pre)))
 
 loop-again : tie.Need-loop-again Inv-loop μ-loop
 loop-again c =
-    let a = c .before .before .before .before .before .before .before .before .args in
+    let c₄ = c .before .before .before .before in
+    let a = c₄ .before .before .before .before .args in
     let l = c .before .before .before .loop in
     let low : l .p < paramCount = omega arith in
-    let b = bytes-of (a .c .now) (a .t2 .device) (c .before .before .before .before .before .find-device .ensures) (c .before .before .before .before .parameter-bytes .ensures) in
+    let b = bytes-of (a .c .now) (a .t2 .device) (c₄ .before .find-device .ensures) (c₄ .parameter-bytes .ensures) in
     let held = parameters-held (a .c .now) (a .t2) (l .p) low in
     let absent = parameters-absent (a .c .now) (a .t2) (l .p) low in
     ⊎-elim
     (λ w. (
       omega arith,
       omega (arith, w .10, l .inv .1),
-      left-at (w .8) (w .9) (w .10) (left-put (left-as (held (w .0 .taken)) (l .inv .2))
-          (put-value (l .p) _ _ (ap elementOf (held-is (a .c .now) (a .t2) (l .p) b low (w .1 .ensures) (value-same (w .3 .result) (valueOf (w .1 .result .kind) (bitsAt (a .t2) (l .p))) (w .3 .ensures)))) (w .5 .ensures))),
+      let e = value-same (w .3 .result) (valueOf (w .1 .result .kind) (bitsAt (a .t2) (l .p))) (w .3 .ensures) in
+          let v = ap elementOf (held-is (a .c .now) (a .t2) (l .p) b low (w .1 .ensures) e) in
+          left-at (w .8) (w .9) (w .10) (left-put (left-as (held (w .0 .taken)) (l .inv .2)) (put-value (l .p) _ _ v (w .5 .ensures))),
     ))
     (λ w. (omega arith, omega (arith, w .3, l .inv .1), left-at (w .1) (w .2) (w .3) (left-as (absent (w .0 .left)) (l .inv .2))))
     (c .if1 .came)
-
-same-length : tie.Need-same-length Inv-loop μ-loop
-same-length c = search needs
 
 returns : tie.Need-returns Inv-loop μ-loop
 returns c =
@@ -108,20 +71,20 @@ put-parameters-spec =
     (tie.spec
     Inv-loop
     μ-loop
-    find-device-requires
-    parameter-bytes-requires
+    (λ c κs. search needs)
+    (λ c κs. search needs)
     loop-holds
-    element-copy-out-if1
-    array-read-describe
-    describe-requires
-    mul-value-of
-    element-copy-out-value-of
-    value-of-requires
-    cast-put-parameter
+    (λ c. search needs)
+    (λ c. search needs)
+    (λ c κs. search needs)
+    (λ c. search needs)
+    (λ c. search needs)
+    (λ c κs. search needs)
+    (λ c. search needs)
     put-parameter-requires
-    add-count
-    add-p
-    loop-less
+    (λ c. search needs)
+    (λ c. search needs)
+    (λ c. search needs)
     loop-again
-    same-length
+    (λ c. search needs)
     returns)

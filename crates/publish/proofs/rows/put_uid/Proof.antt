@@ -10,18 +10,6 @@ use Rattle.list.specs.Bytes.{number}
 use Rattle.publish.proofs.rows.put_uid.Statement.{statement}
 use Rattle.publish.proofs.rows.put_uid.Tie as tie
 
-put-two-u32-requires : tie.Need-put-two-u32-requires
-put-two-u32-requires c κs = search needs
-
-add-put-u64 : tie.Need-add-put-u64
-add-put-u64 c = search needs
-
-put-u64-requires : tie.Need-put-u64-requires
-put-u64-requires c κs = search needs
-
-same-length : tie.Need-same-length
-same-length c = search needs
-
 returns : tie.Need-returns
 returns c =
     let c₄ = c .before .before .before .before in
@@ -32,4 +20,4 @@ returns c =
 
 pub put-uid-spec : {M : Type 1} → statement M
 put-uid-spec =
-    tie.close (tie.spec put-two-u32-requires add-put-u64 put-u64-requires same-length returns)
+    tie.close (tie.spec (λ c κs. search needs) (λ c. search needs) (λ c κs. search needs) (λ c. search needs) returns)

@@ -1,11 +1,9 @@
 //! Buffers as a caller lends them: on the heap, exactly as long as they say, so that
 //! a memory checker sees the first byte beyond, and holding a pattern at first.
 
-#[cfg(any(feature = "list", feature = "stream"))]
-pub use for_lists::{list_answer, ListBuffers};
-
-use crate::report::hex;
+use crate::report::{hex, Difference};
 use second_reader::random::Random;
+use std::fmt::Debug;
 use std::sync::OnceLock;
 
 /// Bytes to be read, in an allocation of exactly their length.
@@ -25,71 +23,51 @@ pub fn patterned(length: usize, seed: u64) -> Box<[u8]> {
     Box::from(&stretch[start..start + length])
 }
 
-/// Where two buffers first differ, with the bytes there.
-fn first_difference(expected: &[u8], found: &[u8]) -> Option<(usize, String, String)> {
-    let at = expected.iter().zip(found).position(|(left, right)| left != right)?;
-    let end = (at + 16).min(expected.len());
-    Some((at, hex(&expected[at..end]), hex(&found[at..end])))
+/// Puts bytes at the front of a buffer; answers how many.
+pub fn put(buffer: &mut [u8], front: &[u8]) -> usize {
+    buffer[..front.len()].copy_from_slice(front);
+    front.len()
 }
 
-/// Names the first byte at which the two sides left a buffer differently.
-pub fn describe(name: &str, expected: &[u8], found: &[u8]) -> (String, String) {
-    match first_difference(expected, found) {
-        None => (String::new(), String::new()),
-        Some((at, left, right)) => {
-            (format!(", {name} from {at}: {left}"), format!(", {name} from {at}: {right}"))
-        }
-    }
+/// What one side answered, and left in the buffers that it was lent.
+#[derive(PartialEq)]
+pub struct Outcome<Answer, const BUFFERS: usize> {
+    pub answer: Answer,
+    pub buffers: [Box<[u8]>; BUFFERS],
 }
 
-#[cfg(any(feature = "list", feature = "stream"))]
-mod for_lists {
-    use super::{describe, patterned};
-    use crate::report::{hex, Difference};
-    use archive::ListResult;
-
-    /// The four numbers of an answer in the form of the C calls for lists.
-    pub fn list_answer([error, consumed, rows, offset]: [u64; 4]) -> ListResult {
-        ListResult { error, consumed, rows, offset }
+impl<Answer: PartialEq + Debug, const BUFFERS: usize> Outcome<Answer, BUFFERS> {
+    pub fn of(
+        mut buffers: [Box<[u8]>; BUFFERS],
+        call: impl FnOnce([&mut [u8]; BUFFERS]) -> Answer,
+    ) -> Self {
+        let answer = call(buffers.each_mut().map(|buffer| &mut buffer[..]));
+        Outcome { answer, buffers }
     }
 
-    /// The two buffers lent to a call for lists.
-    #[derive(PartialEq)]
-    pub struct ListBuffers {
-        pub rows: Box<[u8]>,
-        pub store: Box<[u8]>,
-    }
-
-    impl ListBuffers {
-        pub fn new(rows: usize, store: usize, pattern: u64) -> ListBuffers {
-            ListBuffers { rows: patterned(rows, pattern), store: patterned(store, !pattern) }
+    /// Whether the product's outcome is this one, or how they differ.
+    pub fn owed(
+        &self,
+        side: &'static str,
+        product: &Self,
+        names: [&str; BUFFERS],
+        case: impl FnOnce() -> Vec<(&'static str, String)>,
+    ) -> Result<(), Difference> {
+        if self == product {
+            return Ok(());
         }
-
-        /// The difference between the buffers and answers of the second reader, first,
-        /// and of the product.
-        pub fn difference(
-            &self,
-            bytes: &[u8],
-            pattern: u64,
-            offset: Option<u64>,
-            (expected, found): (ListResult, ListResult),
-            found_buffers: &ListBuffers,
-        ) -> Difference {
-            let (left_rows, right_rows) = describe("rows", &self.rows, &found_buffers.rows);
-            let (left_store, right_store) = describe("store", &self.store, &found_buffers.store);
-            let mut case = vec![
-                ("bytes", hex(bytes)),
-                ("rows length", self.rows.len().to_string()),
-                ("store length", self.store.len().to_string()),
-                ("pattern seed", pattern.to_string()),
-            ];
-            case.extend(offset.map(|offset| ("offset", offset.to_string())));
-            Difference {
-                case,
-                input: None,
-                expected: format!("{expected:?}{left_rows}{left_store}"),
-                found: format!("{found:?}{right_rows}{right_store}"),
+        let mut expected = format!("{:?}", self.answer);
+        let mut found = format!("{:?}", product.answer);
+        for (name, (left, right)) in names.iter().zip(self.buffers.iter().zip(&product.buffers)) {
+            if let Some(at) = left.iter().zip(right).position(|(left, right)| left != right) {
+                let end = (at + 16).min(left.len());
+                expected += &format!(", {name} from {at}: {}", hex(&left[at..end]));
+                found += &format!(", {name} from {at}: {}", hex(&right[at..end]));
             }
         }
+        Err(Difference { case: case(), input: None, side, expected, found })
     }
 }
+
+/// The name of the other side that packets and lists are compared with.
+pub const DEFINITION: &str = "definition";

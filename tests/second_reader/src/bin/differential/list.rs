@@ -1,27 +1,38 @@
 //! `cinder_list_decode` against the second reader.
 
-use crate::buffers::{exact, list_answer, ListBuffers};
-use crate::report::{count_answer, Difference, Section};
+use crate::buffers::{exact, Outcome};
+use crate::lists::{by_definition, compare, lent, result};
+use crate::report::{count_answer, Answers, Difference, Section};
 use archive::list_decode;
 use second_reader::generate::{buffer_length, list};
-use second_reader::list::{decode, numbers, ROWS_ROOM, STORE_ROOM};
+use second_reader::list::{decode, numbers, Decoded, ListError, ROWS_ROOM, STORE_ROOM};
 use second_reader::random::Random;
+use second_reader::Error;
 
-pub const SECTION: Section =
-    Section { name: "list", progress: 10_000, enumerated, random: random_case };
+pub const SECTION: Section = Section {
+    name: "list",
+    progress: 10_000,
+    answers: &[Answers { of: "list_decode", numbers: &[0, 20, 21, 22, 23, 24, 25, 26, 27, 28] }],
+    enumerated,
+    random: random_case,
+};
+
+fn defined(bytes: &[u8], rows: &mut [u8], store: &mut [u8]) -> Result<Decoded, ListError> {
+    if rows.len() < ROWS_ROOM || store.len() < STORE_ROOM {
+        return Err(ListError { error: Error::BufferTooSmall, offset: 0 });
+    }
+    by_definition(bytes, rows, store)
+}
 
 fn check(bytes: Vec<u8>, rows: usize, store: usize, pattern: u64) -> Result<(), Difference> {
     let bytes = exact(bytes);
-    let mut expected_buffers = ListBuffers::new(rows, store, pattern);
-    let mut found_buffers = ListBuffers::new(rows, store, pattern);
-    let answer = decode(&bytes, &mut expected_buffers.rows, &mut expected_buffers.store);
-    let expected = list_answer(numbers(answer));
-    let found = list_decode(&bytes, &mut found_buffers.rows, &mut found_buffers.store);
-    count_answer(expected.error);
-    if expected == found && expected_buffers == found_buffers {
-        return Ok(());
-    }
-    Err(expected_buffers.difference(&bytes, pattern, None, (expected, found), &found_buffers))
+    let lent = || lent((rows, store), pattern);
+    let found = Outcome::of(lent(), |[rows, store]| list_decode(&bytes, rows, store));
+    let reader = Outcome::of(lent(), |[rows, store]| result(numbers(decode(&bytes, rows, store))));
+    let defined =
+        Outcome::of(lent(), |[rows, store]| result(numbers(defined(&bytes, rows, store))));
+    count_answer("list_decode", defined.answer.error);
+    compare(&bytes, None, pattern, [&defined, &reader, &found])
 }
 
 fn random_case(random: &mut Random) -> Result<u64, Difference> {

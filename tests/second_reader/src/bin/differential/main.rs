@@ -1,14 +1,24 @@
-//! Compares the product with the second reader on seeded inputs: each answer, and
-//! every byte of every lent buffer.
+//! Compares the product with the second reader on seeded inputs, packets and lists also
+//! with their definitions: each answer, and every byte of every lent buffer.
 //!
 //! Sections of archive calls are compiled in by the features of the same names; the
 //! programs' sections are always there.
 
-#[cfg(any(feature = "packet", feature = "list", feature = "stream"))]
+#[cfg(any(
+    feature = "packet",
+    feature = "list",
+    feature = "stream",
+    feature = "hub",
+    feature = "writers"
+))]
 mod buffers;
 mod crash;
+#[cfg(feature = "hub")]
+mod hub;
 #[cfg(feature = "list")]
 mod list;
+#[cfg(any(feature = "list", feature = "stream"))]
+mod lists;
 mod options;
 #[cfg(feature = "packet")]
 mod packet;
@@ -16,9 +26,11 @@ mod programs;
 mod report;
 #[cfg(feature = "stream")]
 mod stream;
+#[cfg(feature = "writers")]
+mod writers;
 
 use options::Options;
-use report::{Difference, Section};
+use report::{Difference, Section, Told};
 use second_reader::random::Random;
 use std::process::ExitCode;
 use std::time::{Duration, Instant};
@@ -28,14 +40,17 @@ use std::time::{Duration, Instant};
 fn sections() -> Vec<(Section, u64)> {
     vec![
         #[cfg(feature = "packet")]
-        (packet::SECTION, 400),
+        (packet::SECTION, 300),
         #[cfg(feature = "list")]
-        (list::SECTION, 400),
+        (list::SECTION, 300),
         #[cfg(feature = "stream")]
-        (stream::SECTION, 140),
+        (stream::SECTION, 120),
+        #[cfg(feature = "hub")]
+        (hub::SECTION, 120),
+        #[cfg(feature = "writers")]
+        (writers::SECTION, 130),
         (programs::RUN, 15),
         (programs::REPLAY, 15),
-        (programs::WRITE, 30),
     ]
 }
 
@@ -82,14 +97,31 @@ fn compare(options: &Options, sections: &[(Section, u64)]) -> ExitCode {
             println!("differential: seed {}: {summary}, 0 differences", options.seed);
             ExitCode::SUCCESS
         }
-        Err((name, number, difference)) => {
+        Err(Failure::Differs(name, number, difference)) => {
             report::print(options, name, number, &difference);
+            ExitCode::FAILURE
+        }
+        Err(Failure::Lacking(faults)) => {
+            faults.iter().for_each(|fault| println!("differential: {fault}"));
             ExitCode::FAILURE
         }
     }
 }
 
-type Failure = (&'static str, Option<u64>, Difference);
+enum Failure {
+    /// The section, the number of a random case, and the difference.
+    Differs(&'static str, Option<u64>, Difference),
+    /// What the cases do not show, although nothing differed.
+    Lacking(Vec<String>),
+}
+
+/// Comparing nothing proves nothing.
+fn some(checks: u64, of: &str) -> Result<u64, Failure> {
+    match checks {
+        0 => Err(Failure::Lacking(vec![format!("{of}: nothing was compared")])),
+        _ => Ok(checks),
+    }
+}
 
 /// The enumerated cases, then the number of random cases asked for.
 fn counted(options: &Options, sections: &[(Section, u64)]) -> Result<String, Failure> {
@@ -108,11 +140,24 @@ fn counted(options: &Options, sections: &[(Section, u64)]) -> Result<String, Fai
         }
         let seconds = started.elapsed().as_secs_f64();
         println!("{}: {cases} random cases, {checks} checks, {seconds:.1} s", section.name);
-        println!("{}: {}", section.name, report::answers());
+        answers(options, section)?;
         all_cases += cases;
-        all_checks += checks;
+        all_checks += some(checks, section.name)?;
     }
+    some(all_checks, "all sections")?;
     Ok(format!("{all_cases} random cases, {all_checks} checks"))
+}
+
+/// Prints the answers that were met. They must be all that are possible, unless a random
+/// case is repeated.
+fn answers(options: &Options, section: &Section) -> Result<(), Failure> {
+    let told = Told::take();
+    print!("{}", told.lines(section));
+    let faults = told.faults(section);
+    if options.first == 0 && !faults.is_empty() {
+        return Err(Failure::Lacking(faults));
+    }
+    Ok(())
 }
 
 /// The enumerated cases, which are passed over where a random case is repeated.
@@ -121,7 +166,8 @@ fn enumerated(options: &Options, section: &Section) -> Result<u64, Failure> {
         return Ok(0);
     }
     crash::enter(section.name, None);
-    let checks = (section.enumerated)().map_err(|found| (section.name, None, found))?;
+    let checks =
+        (section.enumerated)().map_err(|found| Failure::Differs(section.name, None, found))?;
     println!("{}: {checks} checks of enumerated cases", section.name);
     Ok(checks)
 }
@@ -150,6 +196,7 @@ fn for_a_time(
             println!("{minute} min: {cases} cases");
         }
     }
+    some(cases, "all sections")?;
     Ok(format!("{cases} cases in {:.0} s", started.elapsed().as_secs_f64()))
 }
 
@@ -157,5 +204,6 @@ fn for_a_time(
 fn one(options: &Options, section: &Section, number: u64) -> Result<u64, Failure> {
     crash::enter(section.name, Some(number));
     let mut random = Random::for_case(options.seed, section.name, number);
-    (section.random)(&mut random).map_err(|found| (section.name, Some(number), found))
+    (section.random)(&mut random)
+        .map_err(|found| Failure::Differs(section.name, Some(number), found))
 }

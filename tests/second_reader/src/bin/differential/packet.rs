@@ -1,44 +1,52 @@
 //! `cinder_packet_decode` against the second reader.
 
-use crate::buffers::{describe, exact, patterned};
-use crate::report::{count_answer, hex, Difference, Section};
+use crate::buffers::{exact, patterned, put, Outcome, DEFINITION};
+use crate::report::{count_answer, hex, Answers, Difference, Section, READER};
 use archive::{packet_decode, PacketResult};
-use second_reader::generate;
+use second_reader::calls::sized;
 use second_reader::packet::{self, PACKET_ROOM};
 use second_reader::random::Random;
+use second_reader::{definition, generate, Error};
 
-pub const SECTION: Section =
-    Section { name: "packet", progress: 10_000, enumerated, random: random_case };
+pub const SECTION: Section = Section {
+    name: "packet",
+    progress: 10_000,
+    answers: &[Answers { of: "packet_decode", numbers: &[0, 1, 2, 3, 4, 5, 6, 7, 8, 20] }],
+    enumerated,
+    random: random_case,
+};
 
-/// The second reader's answer in the form of the C call.
-fn expected_answer(bytes: &[u8], message: &mut [u8]) -> PacketResult {
-    match packet::decode(bytes, message) {
-        Ok(consumed) => PacketResult { error: 0, consumed: consumed as u64 },
-        Err(error) => PacketResult { error: error.number(), consumed: 0 },
+/// An answer in the form of the C call.
+fn result(answer: Result<usize, Error>) -> PacketResult {
+    let [error, consumed] = sized(answer);
+    PacketResult { error, consumed }
+}
+
+fn by_definition(bytes: &[u8], message: &mut [u8]) -> Result<usize, Error> {
+    if message.len() < PACKET_ROOM {
+        return Err(Error::BufferTooSmall);
     }
+    let (consumed, read) = definition::packet::read(bytes)?;
+    put(message, &read);
+    Ok(consumed)
 }
 
 fn check(bytes: Vec<u8>, message_length: usize, pattern: u64) -> Result<(), Difference> {
     let bytes = exact(bytes);
-    let mut expected_message = patterned(message_length, pattern);
-    let mut found_message = patterned(message_length, pattern);
-    let expected = expected_answer(&bytes, &mut expected_message);
-    let found = packet_decode(&bytes, &mut found_message);
-    count_answer(expected.error);
-    if expected == found && expected_message == found_message {
-        return Ok(());
-    }
-    let (left, right) = describe("message", &expected_message, &found_message);
-    Err(Difference {
-        case: vec![
+    let lent = || [patterned(message_length, pattern)];
+    let found = Outcome::of(lent(), |[message]| packet_decode(&bytes, message));
+    let reader = Outcome::of(lent(), |[message]| result(packet::decode(&bytes, message)));
+    let defined = Outcome::of(lent(), |[message]| result(by_definition(&bytes, message)));
+    count_answer("packet_decode", defined.answer.error);
+    let case = || {
+        vec![
             ("bytes", hex(&bytes)),
             ("message length", message_length.to_string()),
             ("pattern seed", pattern.to_string()),
-        ],
-        input: None,
-        expected: format!("{expected:?}{left}"),
-        found: format!("{found:?}{right}"),
-    })
+        ]
+    };
+    defined.owed(DEFINITION, &found, ["message"], case)?;
+    reader.owed(READER, &found, ["message"], case)
 }
 
 fn random_case(random: &mut Random) -> Result<u64, Difference> {

@@ -1,28 +1,41 @@
-//! The run, replay and write programs against the second reader: what each prints for
-//! an input. A case is one process.
+//! The run and replay programs against the second reader: what each prints for an input.
+//! A case is one process.
 
 use crate::options;
-use crate::report::{count_answer, hex, Difference, Section};
+use crate::report::{count_answer, hex, Answers, Difference, Section, READER};
+use second_reader::generate::writers::bytes_of;
 use second_reader::generate::{
-    catalogue, list, replay as generate_replay, stream as generate_stream, write as generate_write,
+    catalogue, list, replay as generate_replay, stream as generate_stream,
 };
-use second_reader::list::LIST_LIMIT;
-use second_reader::packet::PACKET_ROOM;
+use second_reader::list::{DEPTH_LIMIT, LIST_LIMIT};
 use second_reader::random::Random;
 use second_reader::replay::{replay_output, DETACH, PUBLISH, REPLAY_LIMIT};
 use second_reader::stream::{run_output, RUN_LIMIT};
 use second_reader::table::TABLE_BYTES;
-use second_reader::write::{write_output, WRITE_LIMIT};
 use std::io::Write;
 use std::path::PathBuf;
 use std::process::{Command, Output, Stdio};
 
-pub const RUN: Section =
-    Section { name: "run", progress: 500, enumerated: run_enumerated, random: run_case };
-pub const REPLAY: Section =
-    Section { name: "replay", progress: 500, enumerated: replay_enumerated, random: replay_case };
-pub const WRITE: Section =
-    Section { name: "write", progress: 500, enumerated: write_enumerated, random: write_case };
+pub const RUN: Section = Section {
+    name: "run",
+    progress: 500,
+    answers: &[Answers { of: "run", numbers: &[0, 21, 22, 23, 24, 25, 26, 27, 28] }],
+    enumerated: run_enumerated,
+    random: run_case,
+};
+pub const REPLAY: Section = Section {
+    name: "replay",
+    progress: 500,
+    answers: &[Answers {
+        of: "replay",
+        numbers: &[0, 1, 2, 3, 4, 5, 6, 7, 8, 9, 10, 11, 12, 13, 14, 15, 16, 17, 18, 19],
+    }],
+    enumerated: replay_enumerated,
+    random: replay_case,
+};
+
+/// Scripts of every kind, always the same, so that each answer is among the lines.
+const SCRIPTS: usize = 150;
 
 /// The folder of the programs: target/bin, or what CINDER_BIN_DIR names.
 fn programs() -> PathBuf {
@@ -58,7 +71,7 @@ fn check(program: &'static str, input: Vec<u8>, expected: &str) -> Result<u64, D
         Ok(output) => format!("ended by a signal: {}\n", output.status),
         Err(error) => format!("not started: {error}\n"),
     };
-    count_lines(expected);
+    count_lines(program, expected);
     if found == expected {
         return Ok(expected.lines().count() as u64);
     }
@@ -69,21 +82,22 @@ fn check(program: &'static str, input: Vec<u8>, expected: &str) -> Result<u64, D
     };
     Err(Difference {
         case: vec![("standard input", hex(&input))],
+        side: READER,
         expected: line(expected),
         found: line(&found),
         input: Some(input),
     })
 }
 
-/// Counts the answers in lines of any program; all but errors count as 0.
-fn count_lines(text: &str) {
+/// Counts the answers in a program's lines; all but errors count as 0.
+fn count_lines(program: &'static str, text: &str) {
     for line in text.lines() {
         let mut words = line.split(' ');
         let error = match words.next() {
             Some("stop" | "refused") => words.next().and_then(|number| number.parse().ok()),
             _ => None,
         };
-        count_answer(error.unwrap_or(0));
+        count_answer(program, error.unwrap_or(0));
     }
 }
 
@@ -122,6 +136,20 @@ fn run_enumerated() -> Result<u64, Difference> {
     for length in 0..=16 {
         checks += check_run(empty_list.repeat(2)[..length].to_vec())?;
     }
+    // One list at fault for each error, 21 to 28, behind an empty one.
+    let faults: [&[u32]; 8] = [
+        &[256, 1],
+        &[512, 0],
+        &[256, u32::MAX],
+        &[257, 0],
+        &[260, 1, 0],
+        &[256, 1, 7],
+        &[256, 1].repeat(DEPTH_LIMIT + 1),
+        &[268, 1, LIST_LIMIT as u32],
+    ];
+    for fault in faults {
+        checks += check_run([&empty_list[..], &bytes_of(fault)].concat())?;
+    }
     Ok(checks)
 }
 
@@ -152,6 +180,10 @@ fn replay_enumerated() -> Result<u64, Difference> {
             checks += check_replay(input)?;
         }
     }
+    let mut random = Random::new(0);
+    for _ in 0..SCRIPTS {
+        checks += check_replay(generate_replay::any(&mut random))?;
+    }
     Ok(checks + replay_catalogues()?)
 }
 
@@ -174,61 +206,6 @@ fn replay_catalogues() -> Result<u64, Difference> {
         input.extend(bytes);
         input.push(PUBLISH);
         checks += check_replay(input)?;
-    }
-    Ok(checks)
-}
-
-fn check_write(input: Vec<u8>) -> Result<u64, Difference> {
-    let expected = write_output(&input);
-    check("write", input, &expected)
-}
-
-fn write_case(random: &mut Random) -> Result<u64, Difference> {
-    check_write(generate_write::any(random))
-}
-
-/// As many records in one process as an input may hold.
-fn check_records(records: Vec<Vec<u8>>) -> Result<u64, Difference> {
-    let mut checks = 0;
-    let mut input = Vec::new();
-    for record in records {
-        if input.len() + record.len() > WRITE_LIMIT {
-            checks += check_write(std::mem::take(&mut input))?;
-        }
-        input.extend(record);
-    }
-    Ok(checks + check_write(input)?)
-}
-
-/// Every packet into buffers of each size, lists of every shape with each number changed,
-/// records cut at every byte, and inputs around the longest.
-fn write_enumerated() -> Result<u64, Difference> {
-    let mut checks = 0;
-    for buffer in [0, PACKET_ROOM - 1, PACKET_ROOM, PACKET_ROOM + 1] {
-        checks += check_records(generate_write::packets(buffer))?;
-    }
-    let mut random = Random::new(0);
-    for number in 0..60 {
-        let elements = match number % 6 {
-            0 => list::nested(&mut random, 8),
-            1 => list::nested(&mut random, 9),
-            _ => list::tree(&mut random, 8, 120),
-        };
-        let (rows, store) = list::rows_and_store(&elements);
-        let length = list::image(&elements).len();
-        checks += check_records(generate_write::list_and_changed(&rows, &store, length))?;
-    }
-    let packet = generate_write::packet_record(1, &[], PACKET_ROOM);
-    let list = generate_write::list_record(&[256, 1, 0, 12, 0, 2], &[7, 8], LIST_LIMIT);
-    for record in [packet, list] {
-        for there in 0..=record.len() {
-            checks += check_write(record[..there].to_vec())?;
-        }
-        for length in [WRITE_LIMIT - 1, WRITE_LIMIT, WRITE_LIMIT + 1, 2 * WRITE_LIMIT] {
-            let mut input = record.repeat(length / record.len());
-            input.resize(length, 0);
-            checks += check_write(input)?;
-        }
     }
     Ok(checks)
 }

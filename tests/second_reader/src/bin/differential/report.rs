@@ -1,8 +1,9 @@
 //! What a section is, and how a difference is told.
 
 use crate::options::Options;
+use std::collections::BTreeMap;
 use std::fmt::Write;
-use std::sync::atomic::{AtomicU64, Ordering};
+use std::sync::Mutex;
 
 /// One kind of comparison. Both functions answer how many comparisons they made.
 #[derive(Clone, Copy)]
@@ -10,35 +11,77 @@ pub struct Section {
     pub name: &'static str,
     /// Random cases between two lines of progress.
     pub progress: u64,
+    pub answers: &'static [Answers],
     pub enumerated: fn() -> Result<u64, Difference>,
     pub random: fn(&mut second_reader::random::Random) -> Result<u64, Difference>,
 }
 
-/// How often each error number, 0 for none, was the answer since the last telling.
-static ANSWERS: [AtomicU64; 32] = [const { AtomicU64::new(0) }; 32];
-
-pub fn count_answer(error: u64) {
-    ANSWERS[error as usize % 32].fetch_add(1, Ordering::Relaxed);
+/// A call or program, and the numbers that it can answer: its errors and 0 for none.
+pub struct Answers {
+    pub of: &'static str,
+    pub numbers: &'static [u64],
 }
 
-/// The answers met and how often each, so that one can see what the cases reach.
-pub fn answers() -> String {
-    let mut text = String::from("answers");
-    for (error, times) in ANSWERS.iter().enumerate() {
-        let times = times.swap(0, Ordering::Relaxed);
-        if times > 0 {
-            let _ = write!(text, " {error}:{times}");
-        }
+/// How often each number was the answer.
+type Met = BTreeMap<(&'static str, u64), u64>;
+
+static MET: Mutex<Met> = Mutex::new(Met::new());
+
+pub fn count_answer(of: &'static str, number: u64) {
+    *MET.lock().unwrap().entry((of, number)).or_insert(0) += 1;
+}
+
+/// The answers met since the last telling, and how often each.
+pub struct Told(Met);
+
+impl Told {
+    pub fn take() -> Told {
+        Told(std::mem::take(&mut *MET.lock().unwrap()))
     }
-    text
+
+    /// A line for each call of a section.
+    pub fn lines(&self, section: &Section) -> String {
+        let mut text = String::new();
+        for answers in section.answers {
+            let _ = write!(text, "{}: {} answers", section.name, answers.of);
+            for ((_, number), times) in self.0.iter().filter(|((of, _), _)| *of == answers.of) {
+                let _ = write!(text, " {number}:{times}");
+            }
+            text.push('\n');
+        }
+        text
+    }
+
+    /// What is wrong with the answers: one that is possible and was not met, so that the
+    /// cases say nothing about it, or one that was met and is not possible.
+    pub fn faults(&self, section: &Section) -> Vec<String> {
+        let possible = |of, number| {
+            section
+                .answers
+                .iter()
+                .any(|answers| answers.of == of && answers.numbers.contains(&number))
+        };
+        let missing = section.answers.iter().flat_map(|answers| {
+            let not_met = |number: &&u64| !self.0.contains_key(&(answers.of, **number));
+            let tell = |number: &u64| format!("no case in which {} answers {number}", answers.of);
+            answers.numbers.iter().filter(not_met).map(tell)
+        });
+        let strange = self.0.keys().filter(|&&(of, number)| !possible(of, number));
+        missing.chain(strange.map(|(of, number)| format!("{of} answered {number}"))).collect()
+    }
 }
 
-/// A case on which the two sides differ.
+/// The name of the side that all sections compare the product with.
+pub const READER: &str = "second reader";
+
+/// A case on which two sides differ.
 pub struct Difference {
     /// Name and content of each part of the case.
     pub case: Vec<(&'static str, String)>,
     /// Standard input of a program, to be written to a file of its own.
     pub input: Option<Vec<u8>>,
+    /// What the product is compared with: the second reader or a definition.
+    pub side: &'static str,
     pub expected: String,
     pub found: String,
 }
@@ -57,8 +100,8 @@ pub fn print(options: &Options, name: &str, number: Option<u64>, difference: &Di
     for (part, content) in &difference.case {
         let _ = writeln!(text, "{part}: {content}");
     }
-    let _ = writeln!(text, "second reader: {}", difference.expected);
-    let _ = writeln!(text, "product:       {}", difference.found);
+    let _ = writeln!(text, "{:<14} {}", format!("{}:", difference.side), difference.expected);
+    let _ = writeln!(text, "{:<14} {}", "product:", difference.found);
     print!("{text}");
     if let Err(error) = write(options, name, &text, difference.input.as_deref()) {
         println!("{}: not written: {error}", options.out.display());

@@ -1,44 +1,65 @@
 //! `cinder_stream_next` against the second reader: single steps from any offset, and
 //! whole series of steps from the front.
 
-use crate::buffers::{exact, list_answer, ListBuffers};
-use crate::report::{count_answer, Difference, Section};
+use crate::buffers::{exact, Outcome};
+use crate::lists::{by_definition, compare, lent, result};
+use crate::report::{count_answer, Answers, Difference, Section};
 use archive::stream_next;
 use second_reader::generate::{buffer_length, stream as generate};
-use second_reader::list::{ROWS_ROOM, STORE_ROOM};
+use second_reader::list::{ListError, ROWS_ROOM, STORE_ROOM};
 use second_reader::random::Random;
-use second_reader::stream::{next, numbers};
+use second_reader::stream::{next, numbers, Step};
+use second_reader::Error;
 
-pub const SECTION: Section =
-    Section { name: "stream", progress: 5_000, enumerated, random: random_case };
+pub const SECTION: Section = Section {
+    name: "stream",
+    progress: 5_000,
+    answers: &[Answers { of: "stream_next", numbers: &[0, 20, 21, 22, 23, 24, 25, 26, 27, 28] }],
+    enumerated,
+    random: random_case,
+};
 
 /// Steps of one series at most, and how many of them may consume nothing.
 const STEPS: u64 = 40;
 const IDLE_STEPS: u64 = 5;
 
+/// A step by the definition of a list: the bytes from the offset on, alone.
+fn defined(
+    bytes: &[u8],
+    offset: u64,
+    rows: &mut [u8],
+    store: &mut [u8],
+) -> Result<Step, ListError> {
+    if rows.len() < ROWS_ROOM || store.len() < STORE_ROOM {
+        return Err(ListError { error: Error::BufferTooSmall, offset: 0 });
+    }
+    let from = usize::try_from(offset).ok().and_then(|offset| bytes.get(offset..));
+    match from {
+        None => Err(ListError { error: Error::ListEnds, offset }),
+        Some([]) => Ok(Step::End),
+        Some(alone) => match by_definition(alone, rows, store) {
+            Ok(decoded) => Ok(Step::List(decoded)),
+            Err(fault) => Err(ListError { offset: offset + fault.offset, ..fault }),
+        },
+    }
+}
+
 /// One step; answers the bytes consumed.
 fn check(
     bytes: &[u8],
     offset: u64,
-    (rows, store): (usize, usize),
+    lengths: (usize, usize),
     pattern: u64,
 ) -> Result<u64, Difference> {
-    let mut expected_buffers = ListBuffers::new(rows, store, pattern);
-    let mut found_buffers = ListBuffers::new(rows, store, pattern);
-    let step = next(bytes, offset, &mut expected_buffers.rows, &mut expected_buffers.store);
-    let expected = list_answer(numbers(step));
-    let found = stream_next(bytes, offset, &mut found_buffers.rows, &mut found_buffers.store);
-    count_answer(expected.error);
-    if expected == found && expected_buffers == found_buffers {
-        return Ok(expected.consumed);
-    }
-    Err(expected_buffers.difference(
-        bytes,
-        pattern,
-        Some(offset),
-        (expected, found),
-        &found_buffers,
-    ))
+    let lent = || lent(lengths, pattern);
+    let found = Outcome::of(lent(), |[rows, store]| stream_next(bytes, offset, rows, store));
+    let reader =
+        Outcome::of(lent(), |[rows, store]| result(numbers(next(bytes, offset, rows, store))));
+    let defined =
+        Outcome::of(lent(), |[rows, store]| result(numbers(defined(bytes, offset, rows, store))));
+    count_answer("stream_next", defined.answer.error);
+    compare(bytes, Some(offset), pattern, [&defined, &reader, &found])?;
+    Ok(defined.answer.consumed)
 }
 
 fn lengths(random: &mut Random) -> (usize, usize) {
@@ -57,12 +78,17 @@ fn random_case(random: &mut Random) -> Result<u64, Difference> {
         check(&bytes, offset, lent, random.next())?;
         return Ok(1);
     }
+    series(random, &bytes)
+}
+
+/// Steps from the front on; answers how many.
+fn series(random: &mut Random, bytes: &[u8]) -> Result<u64, Difference> {
     let mut offset = 0;
     let mut idle = 0;
     let mut steps = 0;
     while steps < STEPS && idle < IDLE_STEPS {
         let lent = lengths(random);
-        let consumed = check(&bytes, offset, lent, random.next())?;
+        let consumed = check(bytes, offset, lent, random.next())?;
         offset += consumed;
         idle += u64::from(consumed == 0);
         steps += 1;
@@ -70,10 +96,15 @@ fn random_case(random: &mut Random) -> Result<u64, Difference> {
     Ok(steps)
 }
 
-/// A short stream from every offset, a few past its end and the largest.
+/// A short stream from every offset, a few past its end and the largest; and the series of
+/// a few hundred streams of every kind.
 fn enumerated() -> Result<u64, Difference> {
     let mut random = Random::new(0);
     let mut checks = 0;
+    for _ in 0..400 {
+        let bytes = exact(generate::any(&mut random));
+        checks += series(&mut random, &bytes)?;
+    }
     for _ in 0..20 {
         let mut stream = generate::lists(&mut random);
         stream.truncate(600);

@@ -1,0 +1,5 @@
+pub mod PacketAnswers
+pub mod ListAnswers
+pub mod StreamAnswers
+pub mod WriteAnswers
+pub mod HubAnswers

@@ -1,0 +1,84 @@
+-- The answers of the writing calls in numbers; and that a number above a byte is no message type.
+use Prim.Native.Nat.{ℕ, _≤_}
+use mathlib.Core.Path.{_≡_, refl, sym, ap, _∙_}
+use mathlib.Core.Bool.{Bool, true, false, cond}
+use mathlib.Core.List.{List}
+use native.Mathlib.Omega.{arith}
+use lib.Dec.{eqb, ltb}
+use lib.ListN.{length}
+use borrow.Author.Tests.{ne-eqb, ltb-false}
+use Rattle.wire.specs.Area.{over}
+use Rattle.packet.specs.TypeTable.{PING, ACK, DEVICE_WRITE, DEVICE_DATA, LOG, allows, allowed}
+use Rattle.packet.specs.Packet.{PACKET_ROOM}
+use Rattle.packet_encode.specs.declared.Encoded as packet-code
+use Rattle.packet_encode.specs.Encode as packet
+use Rattle.packet_encode.specs.Encode.{packetOf, Writing, encodeError, encoded}
+use Rattle.list_encode.specs.declared.Encoded as list-code
+use Rattle.list_encode.specs.Encode as list
+use Rattle.list_encode.specs.Encode.{encodingOf}
+use Rattle.cinder.specs.declared.write_call.WriteResult.{WriteResult}
+use Rattle.cinder.specs.WriteCall.{WriteOutcome, packetNumbers, listNumbers, packetWriteCall, listWriteCall}
+
+-- numbers beside the area
+abbrev pub beside : WriteResult → List ℕ → WriteOutcome
+beside r area = record { answer = r; area = area }
+
+-- no type is above a byte, and none is 0
+above-none : (number n : ℕ) → 256 ≤ number → allowed number n ≡ false
+unfolding allowed allows
+above-none number n h =
+    rw (
+      ne-eqb number PING (λ e. omega arith),
+      ne-eqb number ACK (λ e. omega arith),
+      ne-eqb number DEVICE_WRITE (λ e. omega arith),
+      ne-eqb number DEVICE_DATA (λ e. omega arith),
+      ne-eqb number LOG (λ e. omega arith),
+    )
+
+zero-none : (n : ℕ) → allowed 0 n ≡ false
+unfolding allowed allows
+zero-none n = refl
+
+-- what is answered to a type that is none
+unknown : (type : ℕ) (payload area : List ℕ) → allowed type (length payload) ≡ false
+    → encoded type payload area ≡ record { result = packet.refused (cond (ltb (length area) PACKET_ROOM) 20 8); buffer = area }
+unfolding encoded encodeError
+unknown type payload area e = rw e (go (ltb (length area) PACKET_ROOM))
+  where
+    go : (small : Bool)
+        → _≡_ {A = Writing}
+        (cond (eqb (cond small 20 8) 0) (record { result = packet.written (length (packetOf type payload)); buffer = over (packetOf type payload) area })
+        (record { result = packet.refused (cond small 20 8); buffer = area }))
+        (record { result = packet.refused (cond small 20 8); buffer = area })
+    go true = refl
+    go false = refl
+
+-- LAW: a number above a byte is answered as 0 is, which is no type either
+pub byte-type : (number : ℕ) (payload area : List ℕ) → encoded (cond (ltb number 256) number 0) payload area ≡ encoded number payload area
+byte-type number payload area = go (ltb number 256) refl
+  where
+    go : (small : Bool) → ltb number 256 ≡ small → encoded (cond small number 0) payload area ≡ encoded number payload area
+    go true e = refl
+    go false e =
+        unknown 0 payload area (zero-none (length payload))
+        ∙ sym (unknown number payload area (above-none number (length payload) (ltb-false number 256 e)))
+
+-- what packet writing is answered by, from the case x of the answer a to the type k
+pub packet-written :
+    (number k : ℕ) (payload area area′ : List ℕ) (a x : packet-code.Encoded) (r : WriteResult) → k ≡ cond (ltb number 256) number 0
+    → a ≡ x → r ≡ packetNumbers (packet.resultOf x) → record { result = packet.resultOf a; buffer = area′ } ≡ encoded k payload area
+    → beside r area′ ≡ packetWriteCall number payload area
+unfolding packetWriteCall
+packet-written number k payload area area′ a x r t is e h =
+    ap (λ (z : WriteResult). beside z area′) (e ∙ ap (λ (z : packet-code.Encoded). packetNumbers (packet.resultOf z)) (sym is))
+    ∙ ap (λ (w : Writing). beside (packetNumbers (w .result)) (w .buffer))
+    (h ∙ ap (λ (z : ℕ). encoded z payload area) t ∙ byte-type number payload area)
+
+-- what list writing is answered by
+pub list-written :
+    (rows store area area′ : List ℕ) (a x : list-code.Encoded) (r : WriteResult) → a ≡ x → r ≡ listNumbers (list.resultOf x)
+    → list.outcome (list.resultOf a) area′ ≡ encodingOf rows store area → beside r area′ ≡ listWriteCall rows store area
+unfolding listWriteCall
+list-written rows store area area′ a x r is e h =
+    ap (λ (z : WriteResult). beside z area′) (e ∙ ap (λ (z : list-code.Encoded). listNumbers (list.resultOf z)) (sym is))
+    ∙ ap (λ (w : list.Outcome). beside (listNumbers (w .result)) (w .buffer)) h

@@ -1,0 +1,5 @@
+pub mod PacketCall
+pub mod ListCall
+pub mod StreamCall
+pub mod WriteCall
+pub mod HubCall

@@ -1,3 +1,0 @@
-pub mod PacketAnswers
-pub mod ListAnswers
-pub mod StreamAnswers

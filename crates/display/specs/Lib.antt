@@ -1,3 +1,0 @@
-pub mod PacketCall
-pub mod ListCall
-pub mod StreamCall

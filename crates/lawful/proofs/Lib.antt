@@ -1,0 +1,4 @@
+pub mod Meaning
+pub mod Keeps
+pub mod Admission
+pub mod ByBytes

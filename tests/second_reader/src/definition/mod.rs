@@ -1,0 +1,7 @@
+//! Packets, lists and the published list as the paper words them, item by item and with
+//! nothing done ahead: what the quicker forms of this library and the product are both
+//! compared with. The areas that a call is lent are no concern here.
+
+pub mod hub;
+pub mod list;
+pub mod packet;
