@@ -146,10 +146,10 @@ cinder_list_result cinder_stream_next(const uint8_t *bytes, size_t bytes_len, ui
  * a readable parameter of that type, and 0 or 1 if it is a flag.
  *
  * The catalogue is an area that the calls only read: a count of device types, 0 to 32;
- * for each its number and its number of parameters, 0 to 32, the type numbers strictly rising; the
- * sum of the numbers of parameters in two bytes, low byte first; and a byte for each
- * parameter: 0 INT, 1 FLOAT or 2 BOOL, 4 added if it is readable and 8 if it is writable.
- * Nothing follows.
+ * for each its number and its number of parameters, 0 to 32, the type numbers strictly
+ * rising; the sum of the numbers of parameters in two bytes, low byte first; and a byte
+ * for each parameter: 0 INT, 1 FLOAT or 2 BOOL, 4 added if it is readable and 8 if it is
+ * writable. Nothing follows.
  *
  * Sockets and indices are whole numbers of 64 bits: 259 is socket 259, not socket 3.
  */
