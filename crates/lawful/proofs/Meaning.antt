@@ -18,8 +18,9 @@ use Rattle.slot.specs.Slot.{paramCount, presentAt, bitsAt}
 use Rattle.slot.specs.Row.{isRow}
 use Rattle.slot.specs.Rows.{rowIn, slotAt}
 use Rattle.slot.specs.declared.Slot.{Slot}
+use Rattle.slot.proofs.Filling.{every-each}
 use Rattle.table.specs.Places.{tableSize}
-use Rattle.table.proofs.Tests.{never, imply, implied, every-of}
+use Rattle.table.proofs.Tests.{never, imply, implied}
 use Rattle.lawful.specs.Lawful.{LawfulSlot, Lawful, valueLawful, heldLawful, nothingHeld, slotLawful, slotsDiffer, lawfulAt, lawful}
 
 value-means :
@@ -133,13 +134,13 @@ module _ (sockets : ℕ) (c : List ℕ) (s : Slot) where
           (eqb (s .socket) 0 && (eqb (s .device) 0 && (eqb (s .year) 0 && (eqb (s .uid) 0 && every paramCount (nothingHeld s))))) ≡ true
       go true u =
           and-true _ _ (lt-ltb (s .socket) sockets (m .socket-small u))
-          (and-true _ _ (m .type-known u) (every-of paramCount (heldLawful c s) (means-held m)))
+          (and-true _ _ (m .type-known u) (every-each paramCount (heldLawful c s) (means-held m)))
       go false u =
           let z = m .empty-zeros u in
           and-true _ _ (eq-eqb (s .socket) 0 (z .0))
           (and-true _ _ (eq-eqb (s .device) 0 (z .1))
           (and-true _ _ (eq-eqb (s .year) 0 (z .2))
-          (and-true _ _ (eq-eqb (s .uid) 0 (z .3)) (every-of paramCount (nothingHeld s) (means-nothing m u)))))
+          (and-true _ _ (eq-eqb (s .uid) 0 (z .3)) (every-each paramCount (nothingHeld s) (means-nothing m u)))))
 
 differ-means :
     (s t : Slot) → slotsDiffer s t ≡ true → s .taken ≡ true → t .taken ≡ true → (s .socket ≢ t .socket) × (s .uid ≢ t .uid)
@@ -214,11 +215,11 @@ module _ (slots sockets : ℕ) (c t : List ℕ) where
   unfolding lawful lawfulAt
   means-lawful h =
       and-true _ _ (eq-eqb (length t) (tableSize slots) (h .whole))
-      (every-of slots _
+      (every-each slots _
       (λ i l.
       and-true _ _ (h .each-row i l)
       (and-true _ _ (means-slot-lawful sockets c (slotAt t i) (h .each-slot i l))
-      (every-of i _ (λ j k. means-differ (slotAt t j) (slotAt t i) (pair i l j k))))))
+      (every-each i _ (λ j k. means-differ (slotAt t j) (slotAt t i) (pair i l j k))))))
     where
       pair :
           (i : ℕ) → i < slots → (j : ℕ) → j < i → slotAt t j .taken ≡ true → slotAt t i .taken ≡ true →

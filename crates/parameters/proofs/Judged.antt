@@ -15,8 +15,9 @@ use Rattle.catalogue.specs.Format.{kindBool}
 use Rattle.catalogue.specs.Lookup.{parameterOf}
 use Rattle.slot.specs.Slot.{paramCount}
 use Rattle.slot.specs.declared.Slot.{Slot}
+use Rattle.slot.proofs.Filling.{every-each}
 use Rattle.table.specs.Change.{Verdict, accepted, refused}
-use Rattle.table.proofs.Tests.{never, imply, implied, every-of}
+use Rattle.table.proofs.Tests.{never, imply, implied}
 use Rattle.table.proofs.Changes.{isAccepted}
 use Rattle.parameters.specs.Data.{mapOf, named, valueIn, readableIf, allReadable, sizeOf, flagIf, allFlags, judged}
 
@@ -140,12 +141,12 @@ module _ (c : List ℕ) (s : Slot) (payload : List ℕ) where
 
   all-readable : Readable c s payload → readables ≡ true
   unfolding allReadable
-  all-readable h = every-of paramCount (λ q. readableIf c s q (named map q)) (λ p l. implied (named map p) (isReadable p) (h p l))
+  all-readable h = every-each paramCount (λ q. readableIf c s q (named map q)) (λ p l. implied (named map p) (isReadable p) (h p l))
 
   all-flags : Judged c s payload → flagged ≡ true
   unfolding allFlags
   all-flags h =
-      every-of paramCount (λ q. flagIf c s q (named map q) (value q))
+      every-each paramCount (λ q. flagIf c s q (named map q) (value q))
       (λ p l.
       implied (named map p && isBool p) (leb (value p) 1)
       (λ e.

@@ -1,12 +1,11 @@
 -- Laws of tests.
-use Prim.Native.Nat.{ℕ, zero, suc, _<_}
+use Prim.Native.Nat.{ℕ, zero, suc}
 use mathlib.Core.Path.{_≡_, refl, sym, ap}
 use mathlib.Core.Bool.{Bool, true, false, not, cond, _&&_, _||_}
 use native.Mathlib.Omega.{arith}
 use lib.Dec.{ltb, leb, eqb}
 use borrow.Author.Tests.{lt-ltb, le-leb, lt-leb, ne-eqb, ltb-true, ltb-false}
 use Rattle.wire.specs.Every.{every}
-use Rattle.wire.proofs.Chains.{and-true}
 
 pub never : {A : Type 0} → true ≡ false → A
 never e = let z : _≡_ {A = ℕ} 0 1 = ap (λ (b : Bool). cond b 0 1) e in absurd (omega arith)
@@ -38,12 +37,6 @@ not-above a b = go (ltb b a) refl
 pub not-above-zero : (a : ℕ) → not (ltb 0 a) ≡ eqb a 0
 not-above-zero zero = refl
 not-above-zero (suc n) = rw (lt-ltb 0 (suc n) (omega arith), ne-eqb (suc n) 0 (λ e. omega arith))
-
--- what holds at each index holds at every one
-pub every-of : (n : ℕ) (test : ℕ → Bool) → ((i : ℕ) → i < n → test i ≡ true) → every n test ≡ true
-unfolding every
-every-of zero test h = refl
-every-of (suc n) test h = and-true (every n test) (test n) (every-of n test (λ i l. h i (omega arith))) (h n (omega arith))
 
 swap : (a b c d : Bool) → ((a && b) && (c && d)) ≡ ((a && c) && (b && d))
 swap true true c d = refl

@@ -1,7 +1,6 @@
 -- `free_slot` meets its contract. Invariant: the search from slot i on has the whole search's answer.
 use Prim.Native.Nat.{_+_}
 use mathlib.Core.Path.{_≡_, refl, sym, ap, _∙_}
-use mathlib.Core.Bool.{Bool}
 use native.Mathlib.Omega.{arith}
 use borrow.Author.Needs.{needs}
 use Rattle.slot.specs.declared.Head.{Head}

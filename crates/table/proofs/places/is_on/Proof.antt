@@ -1,6 +1,6 @@
 -- `is_on` meets its contract, by its test.
 use Prim.Native.Nat.{ℕ}
-use mathlib.Core.Path.{_≡_, sym, ap, _∙_}
+use mathlib.Core.Path.{_≡_, ap}
 use mathlib.Core.Bool.{_&&_}
 use lib.Dec.{eqb}
 use Rattle.slot.specs.Row.{headOf}
