@@ -18,12 +18,12 @@ use Rattle.slot.specs.declared.Slot.{Slot}
 use Rattle.slot.proofs.Filling.{number-bytes, number-small}
 use Rattle.slot.proofs.Rows.{fresh-fits, same-slot}
 use Rattle.table.specs.Places.{tableSize, holds, placeOf, freeOf, isSlot, rowOf}
-use Rattle.table.specs.Change.{Verdict, accepted, refused, refusal, acceptance, Change, becomes, denied, changedAt}
+use Rattle.table.specs.Change.{accepted, refused, refusal, acceptance, Change, becomes, denied}
 use Rattle.table.specs.declared.Place.{Place}
 use Rattle.table.specs.declared.Place.the-variants.{At, Nowhere}
 use Rattle.table.proofs.Tests.{never}
 use Rattle.table.proofs.Searches.{none-free}
-use Rattle.table.proofs.Changes.{isAccepted, FitsChange, changed-others, changed-denied, changed-bytes, changed-accepted}
+use Rattle.table.proofs.Changes.{rowLeft, FitsChange, changed-others, changed-denied, changed-bytes, changed-accepted, denied-exactly, denied-refusal, leaves-accepted}
 use Rattle.attach.specs.Attach.{deviceIn, yearIn, uidIn, ackRow, hasSlot, acked, uidFree, orFree, placeFor, ackChange, assigned}
 use Rattle.attach.proofs.Facts.{isSome, Elsewhere, uid-elsewhere, no-row, all-taken, has-place, slot-index, place-within, not-its-place}
 
@@ -37,14 +37,10 @@ uid-bytes payload h n =
     let l = length-drop 2 payload in
     number-bytes uidSize payload 2 h (omega arith) ∙ take-all uidSize (drop 2 payload) (omega (arith, l))
 
--- the number of a refusal, and the row that is left
-abbrev pub numberOf : Change → ℕ
-numberOf (becomes row) = 0
-numberOf (denied number) = number
-
-abbrev pub rowLeft : Slot → Change → Slot
-rowLeft other (becomes row) = row
-rowLeft other (denied number) = other
+-- the number of a denied change, 0 for none
+abbrev pub deniedNumber : Change → ℕ
+deniedNumber (becomes row) = 0
+deniedNumber (denied number) = number
 
 has-none : (own : Option Slot) (a : Bool) → (hasSlot own a ≡ false) ↔ ((own ≡ none) × (a ≡ false))
 has-none (some own) a = (λ h. never h, λ h. never (ap isSome (h .0)))
@@ -57,26 +53,26 @@ judge row known free has = cond known (cond free (cond has (becomes row) (denied
 module _ (row : Slot) where
   is-12 : (k f s : Bool) → judge row k f s ≡ denied 12 → k ≡ false
   is-12 false f s e = refl
-  is-12 true false s e = let z : _≡_ {A = ℕ} 14 12 = ap numberOf e in absurd (omega arith)
-  is-12 true true false e = let z : _≡_ {A = ℕ} 13 12 = ap numberOf e in absurd (omega arith)
-  is-12 true true true e = let z : _≡_ {A = ℕ} 0 12 = ap numberOf e in absurd (omega arith)
+  is-12 true false s e = let z : _≡_ {A = ℕ} 14 12 = ap deniedNumber e in absurd (omega arith)
+  is-12 true true false e = let z : _≡_ {A = ℕ} 13 12 = ap deniedNumber e in absurd (omega arith)
+  is-12 true true true e = let z : _≡_ {A = ℕ} 0 12 = ap deniedNumber e in absurd (omega arith)
 
   is-14 : (k f s : Bool) → judge row k f s ≡ denied 14 → (k ≡ true) × (f ≡ false)
-  is-14 false f s e = let z : _≡_ {A = ℕ} 12 14 = ap numberOf e in absurd (omega arith)
+  is-14 false f s e = let z : _≡_ {A = ℕ} 12 14 = ap deniedNumber e in absurd (omega arith)
   is-14 true false s e = (refl, refl)
-  is-14 true true false e = let z : _≡_ {A = ℕ} 13 14 = ap numberOf e in absurd (omega arith)
-  is-14 true true true e = let z : _≡_ {A = ℕ} 0 14 = ap numberOf e in absurd (omega arith)
+  is-14 true true false e = let z : _≡_ {A = ℕ} 13 14 = ap deniedNumber e in absurd (omega arith)
+  is-14 true true true e = let z : _≡_ {A = ℕ} 0 14 = ap deniedNumber e in absurd (omega arith)
 
   is-13 : (k f s : Bool) → judge row k f s ≡ denied 13 → (k ≡ true) × (f ≡ true) × (s ≡ false)
-  is-13 false f s e = let z : _≡_ {A = ℕ} 12 13 = ap numberOf e in absurd (omega arith)
-  is-13 true false s e = let z : _≡_ {A = ℕ} 14 13 = ap numberOf e in absurd (omega arith)
+  is-13 false f s e = let z : _≡_ {A = ℕ} 12 13 = ap deniedNumber e in absurd (omega arith)
+  is-13 true false s e = let z : _≡_ {A = ℕ} 14 13 = ap deniedNumber e in absurd (omega arith)
   is-13 true true false e = (refl, refl, refl)
-  is-13 true true true e = let z : _≡_ {A = ℕ} 0 13 = ap numberOf e in absurd (omega arith)
+  is-13 true true true e = let z : _≡_ {A = ℕ} 0 13 = ap deniedNumber e in absurd (omega arith)
 
   is-row : (k f s : Bool) (other : Slot) → judge row k f s ≡ becomes other → (other ≡ row) × (k ≡ true) × (f ≡ true) × (s ≡ true)
-  is-row false f s other e = let z : _≡_ {A = ℕ} 12 0 = ap numberOf e in absurd (omega arith)
-  is-row true false s other e = let z : _≡_ {A = ℕ} 14 0 = ap numberOf e in absurd (omega arith)
-  is-row true true false other e = let z : _≡_ {A = ℕ} 13 0 = ap numberOf e in absurd (omega arith)
+  is-row false f s other e = let z : _≡_ {A = ℕ} 12 0 = ap deniedNumber e in absurd (omega arith)
+  is-row true false s other e = let z : _≡_ {A = ℕ} 14 0 = ap deniedNumber e in absurd (omega arith)
+  is-row true true false other e = let z : _≡_ {A = ℕ} 13 0 = ap deniedNumber e in absurd (omega arith)
   is-row true true true other e = (sym (ap (rowLeft row) e), refl, refl, refl)
 
 -- an ACK judged by its socket's row, if there is one, and the two facts about the others
@@ -119,37 +115,6 @@ module _ (c : List ℕ) (socket : ℕ) (own : Option Slot) (payload : List ℕ) 
   pub ack-row : (row : Slot) → acked c socket own payload free any ≡ becomes row → row ≡ ackRow socket payload
   unfolding acked
   ack-row row e = is-row (ackRow socket payload) (deviceOf c (deviceIn payload) .known) free (hasSlot own any) row e .0
-
--- LAW: a call refuses exactly where its change is denied, with that number
-pub denied-exactly : (t : List ℕ) (p : Place) (x : Change) (n : ℕ) → (changedAt t p x .verdict ≡ refused n) ↔ (x ≡ denied n)
-denied-exactly t p x n = (to p x, λ e. rw e (from p))
-  where
-    back : Verdict → Change
-    back accepted = denied 0
-    back (refused number) = denied number
-
-    to : (p : Place) (x : Change) → changedAt t p x .verdict ≡ refused n → x ≡ denied n
-    to (At i) (becomes row) e = never (ap isAccepted e)
-    to Nowhere (becomes row) e = never (ap isAccepted e)
-    to (At i) (denied number) e = ap back e
-    to Nowhere (denied number) e = ap back e
-
-    from : (p : Place) → changedAt t p (denied n) .verdict ≡ refused n
-    from (At i) = refl
-    from Nowhere = refl
-
--- LAW: and keeps the table
-pub denied-refusal : (t : List ℕ) (p : Place) (n : ℕ) → changedAt t p (denied n) ≡ refusal t n
-denied-refusal t (At i) n = refl
-denied-refusal t Nowhere n = refl
-
--- LAW: a change that leaves a row is accepted
-pub leaves-accepted : (t : List ℕ) (p : Place) (x : Change) (row : Slot) → x ≡ becomes row → changedAt t p x .verdict ≡ accepted
-leaves-accepted t p x row e = rw e (go p)
-  where
-    go : (p : Place) → changedAt t p (becomes row) .verdict ≡ accepted
-    go (At i) = refl
-    go Nowhere = refl
 
 fits-left : (x : Change) (row : Slot) → x ≡ becomes row → FitsChange x → Fits row
 fits-left x row e f = rw e at f

@@ -18,10 +18,10 @@ use Rattle.table.specs.declared.Place.{Place}
 use Rattle.table.specs.declared.Place.the-variants.{At, Nowhere}
 use Rattle.table.proofs.Tests.{never}
 use Rattle.table.proofs.Searches.{holds-parts, place-found, free-found, taken-within}
-use Rattle.table.proofs.Changes.{isAccepted, FitsChange, changed-others, changed-denied, changed-bytes}
+use Rattle.table.proofs.Changes.{isAccepted, rowLeft, FitsChange, changed-others, changed-denied, changed-bytes, denied-exactly}
 use Rattle.attach.specs.Attach.{leaving, left}
 use Rattle.attach.proofs.Facts.{isSome, no-row, free-below}
-use Rattle.attach.proofs.Acks.{numberOf, rowLeft, denied-exactly}
+use Rattle.attach.proofs.Acks.{deniedNumber}
 
 empty-fits : Fits emptySlot
 empty-fits = fresh-fits false 0 0 0 0 (omega arith) (omega arith) (omega arith) (omega arith)
@@ -33,7 +33,7 @@ leave-fits none = tt
 
 -- LAW: 15 is given exactly where the socket has no row
 pub leave-15 : (own : Option Slot) → (leaving own ≡ denied 15) ↔ (own ≡ none)
-leave-15 (some own) = (λ e. let z : _≡_ {A = ℕ} 0 15 = ap numberOf e in absurd (omega arith), λ e. never (ap isSome e))
+leave-15 (some own) = (λ e. let z : _≡_ {A = ℕ} 0 15 = ap deniedNumber e in absurd (omega arith), λ e. never (ap isSome e))
 leave-15 none = (λ e. refl, λ e. refl)
 
 -- LAW: the row that is left is an empty one

@@ -22,7 +22,7 @@ use Rattle.table.specs.Change as change
 use Rattle.table.specs.declared.Place.{Place}
 use Rattle.table.specs.declared.Place.the-variants.{At, Nowhere}
 use Rattle.table.proofs.Tests.{never}
-use Rattle.table.proofs.Changes.{isAccepted}
+use Rattle.table.proofs.Changes.{isAccepted, numberOf}
 use Rattle.lawful.specs.Lawful.{lawful, admission}
 use Rattle.lawful.proofs.Admission as adm
 use Rattle.attach.specs.Attach.{deviceIn, uidIn, ackRow, uidFree, orFree, placeFor, assigned, leaving, left}
@@ -88,11 +88,6 @@ module _ (c t : List ℕ) (socket : ℕ) where
     adm.refused-10-means slotCount socketCount c t socket,
     λ h. adm.means-refused-10 slotCount socketCount c t socket (h .0) (h .1) (h .2),
   )
-
--- the number of a verdict, 0 for an acceptance
-abbrev numberOf : Verdict → ℕ
-numberOf change.accepted = 0
-numberOf (change.refused n) = n
 
 -- 15 is for a socket without a slot, not for a payload
 abbrev verdict : Bool → Bool → Bool → Verdict

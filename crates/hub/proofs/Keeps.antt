@@ -22,12 +22,12 @@ use Rattle.table.specs.declared.Place.{Place}
 use Rattle.table.specs.declared.Place.the-variants.{At}
 use Rattle.table.proofs.Tests.{never}
 use Rattle.table.proofs.Searches.{holds-parts, place-found}
-use Rattle.table.proofs.Changes.{Changed, changed-either, changed-length}
+use Rattle.table.proofs.Changes.{rowLeft, Changed, changed-either, changed-length}
 use Rattle.lawful.specs.Lawful.{lawful, admission}
 use Rattle.lawful.proofs.Admission.{admitted-means}
 use Rattle.attach.specs.Attach.{uidIn, ackRow, uidFree, orFree, placeFor, ackChange, assigned, leaving, left}
 use Rattle.attach.proofs.Facts.{not-its-place}
-use Rattle.attach.proofs.Acks.{rowLeft, ack-row, ack-fits, ack-bytes, ack-others, ack-refused}
+use Rattle.attach.proofs.Acks.{ack-row, ack-fits, ack-bytes, ack-others, ack-refused}
 use Rattle.attach.proofs.Leaving.{left-bytes, left-others, left-other-devices, left-refused}
 use Rattle.attach.proofs.Keeps.{ack-lawful, left-lawful}
 use Rattle.parameters.specs.Data.{judged, stored, becomesIf, dataChange, dataApplied}

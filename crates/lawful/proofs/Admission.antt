@@ -8,12 +8,8 @@ use lib.Dec.{ltb}
 use borrow.Author.Tests.{lt-ltb, le-ltb, ltb-true, ltb-false}
 use Rattle.catalogue.specs.Format.{legal}
 use Rattle.table.specs.Change.{Verdict, accepted, refused}
+use Rattle.table.proofs.Changes.{numberOf}
 use Rattle.lawful.specs.Lawful.{lawful, admission}
-
--- the number of a verdict, 0 for an acceptance
-abbrev numberOf : Verdict → ℕ
-numberOf accepted = 0
-numberOf (refused n) = n
 
 -- two verdicts of different numbers are not the same
 clash : {A : Type 0} (v w : Verdict) → v ≡ w → (numberOf v ≡ numberOf w → ⊥) → A

@@ -18,7 +18,7 @@ use Rattle.slot.specs.declared.Slot.{Slot}
 use Rattle.slot.proofs.Filling.{every-each}
 use Rattle.table.specs.Change.{Verdict, accepted, refused}
 use Rattle.table.proofs.Tests.{never, imply, implied}
-use Rattle.table.proofs.Changes.{isAccepted}
+use Rattle.table.proofs.Changes.{isAccepted, numberOf}
 use Rattle.parameters.specs.Data.{mapOf, named, valueIn, readableIf, allReadable, sizeOf, flagIf, allFlags, judged}
 
 -- each named parameter is readable
@@ -77,10 +77,6 @@ failing (suc n) test h = go (test n) refl h (failing n test)
 implies-not : (a b : Bool) → (not a || b) ≡ false → (a ≡ true) × (b ≡ false)
 implies-not true b h = (refl, h)
 implies-not false b h = never h
-
-abbrev numberOf : Verdict → ℕ
-numberOf accepted = 0
-numberOf (refused n) = n
 
 -- the tests in their order
 abbrev verdict : Bool → Bool → Bool → Verdict

@@ -18,7 +18,7 @@ use Rattle.table.specs.declared.Place.{Place}
 use Rattle.table.specs.declared.Place.the-variants.{At, Nowhere}
 use Rattle.table.proofs.Tests.{never}
 use Rattle.table.proofs.Searches.{holds-parts, place-found}
-use Rattle.table.proofs.Changes.{isAccepted, FitsChange, changed-others, changed-denied, changed-bytes}
+use Rattle.table.proofs.Changes.{isAccepted, rowLeft, FitsChange, changed-others, changed-denied, changed-bytes}
 use Rattle.lawful.specs.Lawful.{LawfulSlot, Lawful, lawful}
 use Rattle.lawful.proofs.Meaning.{lawful-means}
 use Rattle.lawful.proofs.Keeps.{Apart, changed-lawful}
@@ -86,10 +86,6 @@ module _
 abbrev isLeaving : Change → Bool
 isLeaving (becomes row) = true
 isLeaving (denied number) = false
-
-abbrev rowLeft : Slot → Change → Slot
-rowLeft s (becomes row) = row
-rowLeft s (denied number) = s
 
 -- a change that leaves a row has it from an accepted payload
 leaves-parts : (v : Verdict) (s row : Slot) → becomesIf v s ≡ becomes row → (v ≡ accepted) × (s ≡ row)

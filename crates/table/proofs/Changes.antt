@@ -3,7 +3,7 @@ use Prim.Native.Nat.{ℕ}
 use mathlib.Core.Path.{_≡_, refl, sym, ap}
 use mathlib.Core.Bool.{Bool, true, false}
 use mathlib.Core.List.{List}
-use mathlib.Core.Logic.{_⊎_, inl, inr, ⊎-elim, _≢_}
+use mathlib.Core.Logic.{_⊎_, inl, inr, ⊎-elim, _≢_, _↔_}
 use lib.ListN.{length}
 use Rattle.wire.specs.Number.{Bytes}
 use Rattle.slot.specs.Slot.{Fits}
@@ -11,7 +11,7 @@ use Rattle.slot.specs.Row.{isRow}
 use Rattle.slot.specs.Rows.{rowIn, slotAt, withSlot}
 use Rattle.slot.specs.declared.Slot.{Slot}
 use Rattle.slot.proofs.Rows.{other-slot, slot-cases, length-with, bytes-with, row-kept}
-use Rattle.table.specs.Change.{Verdict, accepted, refused, Change, becomes, denied, changedAt}
+use Rattle.table.specs.Change.{Verdict, accepted, refused, refusal, Change, becomes, denied, changedAt}
 use Rattle.table.specs.declared.Place.{Place}
 use Rattle.table.specs.declared.Place.the-variants.{At, Nowhere}
 use Rattle.table.proofs.Tests.{never}
@@ -19,6 +19,16 @@ use Rattle.table.proofs.Tests.{never}
 abbrev pub isAccepted : Verdict → Bool
 isAccepted accepted = true
 isAccepted (refused number) = false
+
+-- the number of a refusal, 0 for none
+abbrev pub numberOf : Verdict → ℕ
+numberOf accepted = 0
+numberOf (refused number) = number
+
+-- the row that a change leaves, where it is not denied
+abbrev pub rowLeft : Slot → Change → Slot
+rowLeft other (becomes row) = row
+rowLeft other (denied number) = other
 
 -- the row of a change is what its type says
 abbrev pub FitsChange : Change → Type 0
@@ -87,3 +97,34 @@ changed-accepted t (At i) (becomes row) e = (row, refl)
 changed-accepted t Nowhere (becomes row) e = (row, refl)
 changed-accepted t (At i) (denied number) e = never (sym (ap isAccepted e))
 changed-accepted t Nowhere (denied number) e = never (sym (ap isAccepted e))
+
+-- LAW: a call refuses exactly where its change is denied, with that number
+pub denied-exactly : (t : List ℕ) (p : Place) (x : Change) (n : ℕ) → (changedAt t p x .verdict ≡ refused n) ↔ (x ≡ denied n)
+denied-exactly t p x n = (to p x, λ e. rw e (from p))
+  where
+    back : Verdict → Change
+    back accepted = denied 0
+    back (refused number) = denied number
+
+    to : (p : Place) (x : Change) → changedAt t p x .verdict ≡ refused n → x ≡ denied n
+    to (At i) (becomes row) e = never (ap isAccepted e)
+    to Nowhere (becomes row) e = never (ap isAccepted e)
+    to (At i) (denied number) e = ap back e
+    to Nowhere (denied number) e = ap back e
+
+    from : (p : Place) → changedAt t p (denied n) .verdict ≡ refused n
+    from (At i) = refl
+    from Nowhere = refl
+
+-- LAW: and keeps the table
+pub denied-refusal : (t : List ℕ) (p : Place) (n : ℕ) → changedAt t p (denied n) ≡ refusal t n
+denied-refusal t (At i) n = refl
+denied-refusal t Nowhere n = refl
+
+-- LAW: a change that leaves a row is accepted
+pub leaves-accepted : (t : List ℕ) (p : Place) (x : Change) (row : Slot) → x ≡ becomes row → changedAt t p x .verdict ≡ accepted
+leaves-accepted t p x row e = rw e (go p)
+  where
+    go : (p : Place) → changedAt t p (becomes row) .verdict ≡ accepted
+    go (At i) = refl
+    go Nowhere = refl
