@@ -25,12 +25,13 @@ layout:
 
 # The programs and the archive, each proved before it is built.
 built:
-	rt check run replay
+	rt check run replay show
 	rt staticlib cinder
 
 outside: built
 	tests/run_cases.sh
 	tests/replay_cases.sh
+	tests/show_cases.sh
 	$(MAKE) --no-print-directory -C tests all
 
 fuzz: built

@@ -1,16 +1,25 @@
 #!/usr/bin/env bash
-# Replays the evening of the faulty sensor and shows what the hub answers, keeps and posts; then reads back what it posted.
+# Replays the evening of the faulty sensor and shows what the hub answers, keeps and posts, each posted list as text; then reads back what
+# it posted.
 set -euo pipefail
 cd "$(dirname "$0")/.."
 answers=target/demo.answers
 posted=target/demo.posted
+texts=target/demo.texts
 
 target/bin/replay < examples/evening.capture > "$answers"
+
+# Every list that the hub posted, end to end, as a display receives them, and the text of each.
+: > "$posted"
+for hex in $(awk '$1 == "posted" { print $3 }' "$answers"); do
+    printf "$(echo "$hex" | sed 's/../\\x&/g')" >> "$posted"
+done
+target/bin/show < "$posted" > "$texts"
 
 echo "A cup sensor on socket 2 and a syrup pump on socket 5; the sensor then sends bad packets."
 echo "Each line: what came, and what the hub answered. The table and the posted list are shown where they changed."
 echo
-paste -d '\t' examples/evening.steps "$answers" | awk -F '\t' '
+paste -d '\t' examples/evening.steps "$answers" | awk -F '\t' -v texts="$texts" '
 function byte(hex, at) { return substr(hex, 2 * at + 1, 2) }
 function slot(hex, i,    from, p, held) {
     from = 172 * i
@@ -29,19 +38,15 @@ function slot(hex, i,    from, p, held) {
         print "    table (hex, low byte first):"
         for (i = 0; i < 4; i++) print slot(word[2], i)
     } else if (word[1] == "posted") {
+        getline text < texts
         if ($2 == list) { print "    list: as before"; next }
         list = $2
-        print "    list of " word[2] " bytes: " word[3]
+        print "    list of " word[2] " bytes: " text
     } else {
         print $1 ": " $2
     }
 }'
 
-# Every list that the hub posted, end to end, as a display receives them.
-: > "$posted"
-for hex in $(awk '$1 == "posted" { print $3 }' "$answers"); do
-    printf "$(echo "$hex" | sed 's/../\\x&/g')" >> "$posted"
-done
 echo
 echo "The posted lists, end to end, read by the run program (the first and the last lines):"
 target/bin/run < "$posted" | sed -n '1,2p;$p'

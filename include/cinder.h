@@ -1,6 +1,6 @@
 /*
  * Packets, lists and the hub for firmware: the readers of the display, the calls of the
- * hub, and the writers. Link with libcinder.a.
+ * hub, the writers, and lists as text. Link with libcinder.a.
  *
  * Every call answers for every content of its areas. The caller answers for one thing:
  * each area is there, is as long as its length says, and shares no byte with another
@@ -283,6 +283,69 @@ cinder_write_result cinder_packet_encode(uint64_t type, const uint8_t *payload, 
  *   28  the list would have more than 4,096 bytes
  */
 cinder_write_result cinder_list_encode(const uint8_t *rows, size_t rows_len, const uint8_t *store, size_t store_len, uint8_t *list, size_t list_len);
+
+/* The least length of an area that a text is written to; no text that is written has more characters. */
+#define CINDER_TEXT_ROOM 16384
+
+/*
+ * A list as text, for people to read: its elements with one space between them.
+ *
+ *   list    its elements between ( and ); the outermost list has no brackets
+ *   int     decimal, - before it if it is below 0, no leading zeros
+ *   string  between " and "; a backslash before quote and backslash, and bytes below 32 or
+ *           above 126 as a backslash and three octal digits
+ *   blob    its bytes between { and }, decimal without leading zeros, one space between
+ *   vocab   one to four bytes between [ and ], the lowest first; each is 33 to 126 and
+ *           neither [ nor ], and the bytes above them are 0
+ *   float   as C prints it with %.13a: 0x1.8000000000000p-1; zero is 0x0.0000000000000p+0,
+ *           a subnormal has 0x0. and p-1022; - before it if its sign bit is set, also for
+ *           zero
+ *
+ * So an empty list is the empty text, and () within another. Infinities, NaNs and other
+ * vocabs have no text form. A text is read only as it is written, character for character,
+ * and two different lists never have equal text. No zero stands behind a text.
+ */
+
+/*
+ * Writes the text of the list that `rows` and `store` describe to the front of `text`. Both
+ * are as cinder_list_encode asks them.
+ *
+ * On success error is 0 and written is the number of characters. Nothing behind them has
+ * changed.
+ *
+ * On an error written is 0, `text` is as it was, and error is the first of these, in this
+ * order:
+ *
+ *   20  text_len is below CINDER_TEXT_ROOM
+ *   30  rows and store do not describe exactly one list; so it is where rows_len is no
+ *       multiple of 12
+ *   27  a list is nested deeper than 8
+ *   28  the list would have more than 4,096 bytes
+ *   31  an element has no text form
+ */
+cinder_write_result cinder_text_encode(const uint8_t *rows, size_t rows_len, const uint8_t *store, size_t store_len, uint8_t *text, size_t text_len);
+
+typedef struct {
+    uint64_t error, rows, stored;
+} cinder_text_result;
+
+/*
+ * Reads the list whose text is the whole of `text`.
+ *
+ * On success error is 0, rows is the number of its rows and stored the number of store
+ * bytes in use. Both areas are as cinder_list_decode has them for that list: the rows at
+ * the front of `rows`, the strings and blobs at the front of `store`, and nothing behind
+ * them has changed. cinder_text_encode writes them as the text that was read.
+ *
+ * On an error rows and stored are 0, both areas are as they were, and error is the first of
+ * these, in this order:
+ *
+ *   20  rows_len is below CINDER_ROWS_ROOM, or store_len is below CINDER_STORE_ROOM
+ *   32  the text is not the text of a list, however deep and long that would be
+ *   27  a list is nested deeper than 8
+ *   28  the list would have more than 4,096 bytes
+ */
+cinder_text_result cinder_text_decode(const uint8_t *text, size_t text_len, uint8_t *rows, size_t rows_len, uint8_t *store, size_t store_len);
 
 #ifdef __cplusplus
 }

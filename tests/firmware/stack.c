@@ -28,13 +28,16 @@ enum call {
     HUB_READ,
     PACKET_ENCODE,
     LIST_ENCODE,
+    TEXT_ENCODE,
+    TEXT_DECODE,
     CALLS
 };
 
 static const char *const call_names[CALLS] = {
     "cinder_packet_decode", "cinder_list_decode", "cinder_stream_next",
     "cinder_hub_receive",   "cinder_hub_detach",  "cinder_hub_publish",
-    "cinder_hub_read",      "cinder_packet_encode", "cinder_list_encode"};
+    "cinder_hub_read",      "cinder_packet_encode", "cinder_list_encode",
+    "cinder_text_encode",   "cinder_text_decode"};
 
 struct deepest {
     size_t bytes;
@@ -48,7 +51,7 @@ static struct deepest deepest[CALLS];
 /* The call to make; a context's function takes no pointers. */
 static struct {
     enum call call;
-    /* What is read: bytes, a payload or rows. */
+    /* What is read: bytes, a payload, rows or a text. */
     const uint8_t *bytes;
     size_t length;
     /* The offset, the type, or the socket. */
@@ -62,11 +65,12 @@ static struct {
     size_t first_room;
     size_t store_room;
     cinder_list_result answer;
+    size_t written;
     const uint8_t *stack_pointer;
 } given;
 
 static uint64_t stack[STACK_WORDS] __attribute__((aligned(64)));
-static uint8_t first[ROWS_ROOM];
+static uint8_t first[CINDER_TEXT_ROOM];
 static uint8_t store[STORE_ROOM];
 static ucontext_t caller, callee;
 
@@ -114,9 +118,22 @@ static void make_call(void)
                                                   given.first_room)
                                  .error;
         break;
-    default:
+    case LIST_ENCODE:
         given.answer.error = cinder_list_encode(given.bytes, given.length, given.stored,
                                                 given.stored_length, first, given.first_room)
+                                 .error;
+        break;
+    case TEXT_ENCODE: {
+        cinder_write_result written = cinder_text_encode(given.bytes, given.length, given.stored,
+                                                         given.stored_length, first,
+                                                         given.first_room);
+        given.answer.error = written.error;
+        given.written = written.written;
+        break;
+    }
+    default:
+        given.answer.error = cinder_text_decode(given.bytes, given.length, first,
+                                                given.first_room, store, given.store_room)
                                  .error;
     }
 }
@@ -159,20 +176,55 @@ static void packet(const uint8_t *bytes, size_t length, size_t room, const char 
     measure(input);
 }
 
+/* Both writers of a list. The text is written last, so that it stands in the area. */
 static void encode(const uint8_t *rows, size_t length, const uint8_t *stored,
-                   size_t stored_length, size_t room, const char *input)
+                   size_t stored_length, const char *input)
 {
-    given.call = LIST_ENCODE;
     given.bytes = rows;
     given.length = length;
     given.stored = stored;
     given.stored_length = stored_length;
-    given.first_room = room;
+    given.call = LIST_ENCODE;
+    given.first_room = CINDER_LIST_ROOM;
+    measure(input);
+    given.call = TEXT_ENCODE;
+    given.first_room = CINDER_TEXT_ROOM;
     measure(input);
 }
 
-/* The rows that were read, written again: whole, short of a row, and with a number of each
- * of a few rows replaced. */
+static void text(const uint8_t *bytes, size_t length, const char *input)
+{
+    given.call = TEXT_DECODE;
+    given.bytes = bytes;
+    given.length = length;
+    given.first_room = ROWS_ROOM;
+    given.store_room = STORE_ROOM;
+    measure(input);
+}
+
+/* The text that was written, read again: whole, cut, and with each of a few characters
+ * replaced by others. */
+static void read_back(const char *input)
+{
+    static const char others[] = "()[]{}\"\\ -0xp1z";
+    static uint8_t copy[CINDER_TEXT_ROOM];
+    size_t length = given.written;
+    memcpy(copy, first, length);
+    text(copy, length, input);
+    check(given.answer.error == 0, "text", "read back");
+    for (size_t at = 0; at < length; at += length < 100 ? 1 : 1 + length / 8) {
+        uint8_t old = copy[at];
+        text(copy, at, input);
+        for (size_t other = 0; other + 1 < sizeof others; other++) {
+            copy[at] = (uint8_t)others[other];
+            text(copy, length, input);
+        }
+        copy[at] = old;
+    }
+}
+
+/* The rows that were read, written again as bytes and as text: whole, short of a row, and
+ * with a number of each of a few rows replaced. */
 static void written_back(const char *input)
 {
     static const uint32_t others[] = {0, 1, 4, 12, 256, 0xffffffff};
@@ -182,14 +234,16 @@ static void written_back(const char *input)
     size_t stored_length = given.answer.stored;
     memcpy(rows, first, length);
     memcpy(stored, store, stored_length);
-    encode(rows, length, stored, stored_length, LIST_LIMIT, input);
-    encode(rows, length - ROW_BYTES, stored, stored_length, LIST_LIMIT, input);
+    encode(rows, length, stored, stored_length, input);
+    if (given.answer.error == 0)
+        read_back(input);
+    encode(rows, length - ROW_BYTES, stored, stored_length, input);
     for (size_t at = 0; at < length; at += length < 100 ? 4 : 460) {
         uint8_t old[4];
         memcpy(old, rows + at, 4);
         for (size_t other = 0; other < sizeof others / sizeof others[0]; other++) {
             put_words(rows + at, &others[other], 1);
-            encode(rows, length, stored, stored_length, LIST_LIMIT, input);
+            encode(rows, length, stored, stored_length, input);
         }
         memcpy(rows + at, old, 4);
     }
@@ -238,7 +292,14 @@ static void too_small(void)
     measure("buffer too small");
     given.call = STREAM_NEXT;
     measure("buffer too small");
-    encode(NULL, 0, NULL, 0, LIST_LIMIT - 1, "buffer too small");
+    given.call = TEXT_DECODE;
+    measure("buffer too small");
+    given.first_room = CINDER_LIST_ROOM - 1;
+    given.call = LIST_ENCODE;
+    measure("buffer too small");
+    given.first_room = CINDER_TEXT_ROOM - 1;
+    given.call = TEXT_ENCODE;
+    measure("buffer too small");
 }
 
 /* The list whole, cut at every byte, and with every number replaced by others. */
@@ -303,7 +364,7 @@ static size_t nested(uint8_t *bytes, unsigned depth, uint32_t kind, bool typed, 
     uint32_t count = 0;
     at += 8;
     if (!typed) {
-        at += put_element(bytes + at, kind == 9 ? 1 : 9, true, 5);
+        at += put_element(bytes + at, kind == 9 ? 1 : 9, true, 'a');
         count++;
     }
     size_t size = put_element(bytes + at, kind, !typed, length);
@@ -334,8 +395,9 @@ static void all_lists(void)
                     for (size_t limit = 0; limit < 3; limit++) {
                         if (kinds[kind] != 4 && kinds[kind] != 12 && at > 0)
                             continue;
-                        size_t length = nested(bytes, depth, kinds[kind], typed, lengths[at],
-                                               limits[limit]);
+                        uint32_t content = kinds[kind] == 9 ? 'a' : lengths[at];
+                        size_t length =
+                            nested(bytes, depth, kinds[kind], typed, content, limits[limit]);
                         list_and_damaged(bytes, length,
                                          depth == 9   ? "nine nested lists"
                                          : depth == 8 ? "eight nested lists"
@@ -350,7 +412,22 @@ static void deep_rows(void)
     for (size_t depth = 1; depth <= ROWS_ROOM / ROW_BYTES; depth += depth < 12 ? 1 : 101) {
         for (size_t row = 0; row < depth; row++)
             put_words(rows + ROW_BYTES * row, (uint32_t[]){256, row + 1 < depth, 0}, 3);
-        encode(rows, ROW_BYTES * depth, NULL, 0, LIST_LIMIT, "rows of nested lists");
+        encode(rows, ROW_BYTES * depth, NULL, 0, "rows of nested lists");
+    }
+}
+
+/* Brackets in each other, far more of them than may be, and one of them lost. */
+static void deep_texts(void)
+{
+    enum { DEEPEST = 100000 };
+    static uint8_t brackets[2 * DEEPEST];
+    for (size_t depth = 1; depth <= DEEPEST; depth *= depth < 8 ? 2 : 5) {
+        memset(brackets, '(', depth);
+        memset(brackets + depth, ')', depth);
+        text(brackets, 2 * depth, "nested brackets");
+        check(given.answer.error == (depth < 8 ? 0 : 27), "text", "nested brackets");
+        text(brackets, 2 * depth - 1, "nested brackets, one lost");
+        check(given.answer.error == 32, "text", "nested brackets, one lost");
     }
 }
 
@@ -511,6 +588,7 @@ int main(void)
     all_packets();
     all_lists();
     deep_rows();
+    deep_texts();
     all_hub_calls();
     printf("%-22s %8s %9s  %s\n", "call", "measured", "calls", "deepest with");
     for (int call = 0; call < CALLS; call++) {

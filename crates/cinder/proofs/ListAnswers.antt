@@ -1,4 +1,4 @@
--- The answers of the list and stream calls in numbers; and what the list call answers to a legal list.
+-- The answers of the calls that fill rows and store in numbers; and what the list call answers to a legal list.
 use Prim.Native.Nat.{ℕ, _*_, _≤_}
 use mathlib.Core.Path.{_≡_, sym, ap, _∙_}
 use mathlib.Core.List.{List, _++_}
@@ -15,14 +15,13 @@ use Rattle.list.proofs.Complete.{complete}
 use Rattle.list_decode.specs.Decode.{Outcome, outcome, decodingOf}
 use Rattle.list_decode.proofs.Answers.{enough}
 use Rattle.stream.specs.Step.{answeredBy}
-use Rattle.cinder.specs.declared.list_call.ListResult.{ListResult}
 use Rattle.cinder.specs.ListCall.{listRead, listCall}
 
 -- what a call answers, by the case x of the answer a that it was given
-pub in-numbers : {A B : Type 0} (words : A → ListResult) (told : B → A) (a x : B) (r : ListResult) (rows store : List ℕ) (o : Outcome A)
+pub in-numbers : {A B R : Type 0} (words : A → R) (told : B → A) (a x : B) (r : R) (rows store : List ℕ) (o : Outcome A)
     → a ≡ x → r ≡ words (told x) → outcome (told a) rows store ≡ o → outcome r rows store ≡ answeredBy words o
-in-numbers {A} {B} words told a x r rows store o is e h =
-    ap (λ (z : ListResult). outcome z rows store) (e ∙ ap (λ (z : B). words (told z)) (sym is)) ∙ ap (answeredBy words) h
+in-numbers {A} {B} {R} words told a x r rows store o is e h =
+    ap (λ (z : R). outcome z rows store) (e ∙ ap (λ (z : B). words (told z)) (sym is)) ∙ ap (answeredBy words) h
 
 -- a legal list, with anything behind it, is answered by its sizes, and its rows and store bytes stand at the front of the areas
 pub list-complete : (es : Elements) (rest rows store : List ℕ) → 4 * rowRoom ≤ length rows → storeRoom ≤ length store → Legal listLimit es

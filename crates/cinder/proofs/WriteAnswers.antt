@@ -15,9 +15,8 @@ use Rattle.packet_encode.specs.Encode as packet
 use Rattle.packet_encode.specs.Encode.{packetOf, Writing, encodeError, encoded}
 use Rattle.list_encode.specs.declared.Encoded as list-code
 use Rattle.list_encode.specs.Encode as list
-use Rattle.list_encode.specs.Encode.{encodingOf}
 use Rattle.cinder.specs.declared.write_call.WriteResult.{WriteResult}
-use Rattle.cinder.specs.WriteCall.{WriteOutcome, packetNumbers, listNumbers, packetWriteCall, listWriteCall}
+use Rattle.cinder.specs.WriteCall.{WriteOutcome, packetNumbers, listNumbers, packetWriteCall}
 
 -- numbers beside the area
 abbrev pub beside : WriteResult → List ℕ → WriteOutcome
@@ -74,11 +73,10 @@ packet-written number k payload area area′ a x r t is e h =
     ∙ ap (λ (w : Writing). beside (packetNumbers (w .result)) (w .buffer))
     (h ∙ ap (λ (z : ℕ). encoded z payload area) t ∙ byte-type number payload area)
 
--- what list writing is answered by
-pub list-written :
-    (rows store area area′ : List ℕ) (a x : list-code.Encoded) (r : WriteResult) → a ≡ x → r ≡ listNumbers (list.resultOf x)
-    → list.outcome (list.resultOf a) area′ ≡ encodingOf rows store area → beside r area′ ≡ listWriteCall rows store area
-unfolding listWriteCall
-list-written rows store area area′ a x r is e h =
+-- what list writing, in bytes or as text, is answered by
+pub rows-written :
+    (area′ : List ℕ) (w : list.Outcome) (a x : list-code.Encoded) (r : WriteResult) → a ≡ x → r ≡ listNumbers (list.resultOf x)
+    → list.outcome (list.resultOf a) area′ ≡ w → beside r area′ ≡ beside (listNumbers (w .result)) (w .buffer)
+rows-written area′ w a x r is e h =
     ap (λ (z : WriteResult). beside z area′) (e ∙ ap (λ (z : list-code.Encoded). listNumbers (list.resultOf z)) (sym is))
     ∙ ap (λ (w : list.Outcome). beside (listNumbers (w .result)) (w .buffer)) h

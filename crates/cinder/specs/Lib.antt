@@ -3,3 +3,4 @@ pub mod ListCall
 pub mod StreamCall
 pub mod WriteCall
 pub mod HubCall
+pub mod TextCall

@@ -3,6 +3,7 @@ mod hub_call;
 mod list_call;
 mod packet_call;
 mod stream_call;
+mod text_call;
 mod write_call;
 
 pub use hub_call::ValueResult;
@@ -15,6 +16,9 @@ pub use list_call::cinder_list_decode;
 pub use packet_call::PacketResult;
 pub use packet_call::cinder_packet_decode;
 pub use stream_call::cinder_stream_next;
+pub use text_call::TextResult;
+pub use text_call::cinder_text_decode;
+pub use text_call::cinder_text_encode;
 pub use write_call::WriteResult;
 pub use write_call::cinder_list_encode;
 pub use write_call::cinder_packet_encode;

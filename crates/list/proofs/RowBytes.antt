@@ -1,14 +1,14 @@
 -- Laws of rows as bytes: numbers and their bytes determine each other.
-use Prim.Native.Nat.{ℕ, zero, suc, _+_, _*_, _/_, _%_, _^_, _≤_, _<_}
+use Prim.Native.Nat.{ℕ, zero, suc, _+_, _-_, _*_, _/_, _%_, _^_, _≤_, _<_}
 use mathlib.Core.Path.{_≡_, refl, sym, ap, _∙_}
 use mathlib.Core.Bool.{Bool, true, false}
 use mathlib.Core.List.{List, [], _∷_, _++_}
 use native.Mathlib.Omega.{arith}
 use lib.Dec.{leb}
-use lib.ListN.{length, getD, List·getD-eq-default}
+use lib.ListN.{length, take, drop, getD, List·getD-eq-default}
 use borrow.Author.Tests.{le-leb, lt-leb, leb-true, leb-false}
 use Rattle.wire.specs.Number.{numberAt, Bytes}
-use Rattle.wire.proofs.Numbers.{value-of-bytes, bytes-of-value, value-fits}
+use Rattle.wire.proofs.Numbers.{value-of-bytes, bytes-of-value, value-fits, part-number}
 use Rattle.list.specs.Bytes.{number}
 use Rattle.list.specs.RowBytes.{packed, unpacked}
 
@@ -82,3 +82,9 @@ unpacked-at (a ∷ b ∷ c ∷ d ∷ s) (suc i) h =
 -- past the last there is none
 pub unpacked-past : (s : List ℕ) (i : ℕ) → length s / 4 ≤ i → getD (unpacked s) i 0 ≡ 0
 unpacked-past s i h = List·getD-eq-default (unpacked s) 0 (omega (arith, unpacked-length s))
+
+-- the same of a number that is read from a part of its size
+pub unpacked-part : (s : List ℕ) (i at e n : ℕ) → i < length s / 4 → at ≡ 4 * i → e ≡ at + 4 → n ≡ numberAt 4 (take (e - at) (drop at s)) 0
+    → n ≡ getD (unpacked s) i 0
+unpacked-part s i at e n h is-at is-e is-n =
+    is-n ∙ part-number 4 (e - at) s at (omega arith) ∙ ap (numberAt 4 s) is-at ∙ sym (unpacked-at s i h)

@@ -1,9 +1,10 @@
 // What a list is: the kinds of its elements, the limits of 01, its rows, and the refusal of list reading.
 ghost use mathlib.Core.Path.{_≡_};
+ghost use mathlib.Core.List.{[], _∷_};
 ghost use lib.ListN.{getD};
 ghost use Rattle.list.specs.Kind.{kindOf, sizeOf};
 ghost use Rattle.list.specs.Bytes.{common};
-ghost use Rattle.list.specs.RowBytes.{unpacked, rowOf};
+ghost use Rattle.list.specs.RowBytes.{packed, unpacked, rowOf};
 
 // "A list has at most 4,096 bytes": also the room that a list buffer must have.
 pub const LIST_LIMIT: usize = 4096;
@@ -50,18 +51,19 @@ pub struct Row {
     pub third: u32,
 }
 
-// A number of rows that are bytes, 0 past the last.
+// A number of rows that are bytes, 0 past the last. It is read from a part of its size, so that it needs no further test.
 pub fn number_at(rows: &[u8], i: usize) -> u32
     ensures { λ r. ⌜ r ≡ getD (unpacked (now (rows .entry))) i 0 ⌝ }
 {
     if i < rows.len() / NUMBER {
-        return numbers::u32_at(rows, NUMBER * i);
+        let at = NUMBER * i;
+        return numbers::u32_at(&rows[at..at + NUMBER], 0);
     }
     0
 }
 
-// Row i of rows that are bytes, zeros past the last.
-pub fn row_at(rows: &[u8], i: usize) -> Row
+// What is left of a row behind the last whole one, zeros past the end.
+fn cut_row(rows: &[u8], i: usize) -> Row
     ensures { λ r. ⌜ r ≡ rowOf (now (rows .entry)) i ⌝ }
 {
     if rows.len() / NUMBER <= i {
@@ -77,6 +79,43 @@ pub fn row_at(rows: &[u8], i: usize) -> Row
         second: number_at(rows, at + 1),
         third: number_at(rows, at + 2),
     }
+}
+
+// Row i of rows that are bytes, zeros past the last. One test of room serves its three numbers.
+pub fn row_at(rows: &[u8], i: usize) -> Row
+    ensures { λ r. ⌜ r ≡ rowOf (now (rows .entry)) i ⌝ }
+{
+    if i < rows.len() / ROW {
+        let first = ROW * i;
+        let second = first + NUMBER;
+        let third = second + NUMBER;
+        return Row {
+            code: numbers::u32_at(&rows[first..second], 0),
+            second: numbers::u32_at(&rows[second..third], 0),
+            third: numbers::u32_at(&rows[third..third + NUMBER], 0),
+        };
+    }
+    cut_row(rows, i)
+}
+
+// The bytes of a row, written out so that they are one array.
+pub fn row_bytes(code: u32, second: u32, third: u32) -> [u8; ROW]
+    ensures { λ r. ⌜ r ≡ packed (code ∷ second ∷ third ∷ []) ⌝ }
+{
+    [
+        (code % 256) as u8,
+        (code / 256 % 256) as u8,
+        (code / 256 / 256 % 256) as u8,
+        (code / 256 / 256 / 256 % 256) as u8,
+        (second % 256) as u8,
+        (second / 256 % 256) as u8,
+        (second / 256 / 256 % 256) as u8,
+        (second / 256 / 256 / 256 % 256) as u8,
+        (third % 256) as u8,
+        (third / 256 % 256) as u8,
+        (third / 256 / 256 % 256) as u8,
+        (third / 256 / 256 / 256 % 256) as u8,
+    ]
 }
 
 // The code that the elements so far have in common: 0 before the first, LIST_CODE where two differ or one is a list.

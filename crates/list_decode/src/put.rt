@@ -17,32 +17,12 @@ pub struct Cursor {
     pub used: usize,
 }
 
-// The bytes of a row, written out so that they are one array.
-fn row_bytes(code: u32, second: u32, third: u32) -> [u8; ROW]
-    ensures { λ r. ⌜ r ≡ packed (code ∷ second ∷ third ∷ []) ⌝ }
-{
-    [
-        (code % 256) as u8,
-        (code / 256 % 256) as u8,
-        (code / 256 / 256 % 256) as u8,
-        (code / 256 / 256 / 256 % 256) as u8,
-        (second % 256) as u8,
-        (second / 256 % 256) as u8,
-        (second / 256 / 256 % 256) as u8,
-        (second / 256 / 256 / 256 % 256) as u8,
-        (third % 256) as u8,
-        (third / 256 % 256) as u8,
-        (third / 256 / 256 % 256) as u8,
-        (third / 256 / 256 / 256 % 256) as u8,
-    ]
-}
-
 // The part that takes the row has its size, so that the compiler leaves no test of room, and no array.
 pub fn put_row(rows: &mut [u8], at: usize, code: u32, second: u32, third: u32)
     requires { ⌜ Fits (now rows) at (packed (code ∷ second ∷ third ∷ [])) ⌝ }
     ensures { λ _. ⌜ now (rows .exit) ≡ sets (now (rows .entry)) at (packed (code ∷ second ∷ third ∷ [])) ⌝ }
 {
-    let row = row_bytes(code, second, third);
+    let row = list::row_bytes(code, second, third);
     wire::copy_at(&mut rows[at..at + ROW], 0, &row);
 }
 

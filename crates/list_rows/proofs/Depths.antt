@@ -28,7 +28,8 @@ row-code (float low high) used rest = refl
 row-code (str bs) used rest = refl
 row-code (blob bs) used rest = refl
 
-number-at : (s : List ℕ) (at : ℕ) (xs : List ℕ) → drop at s ≡ xs → (i : ℕ) → getD s (at + i) 0 ≡ getD xs i 0
+-- a number of what stands from a place on
+pub number-at : (s : List ℕ) (at : ℕ) (xs : List ℕ) → drop at s ≡ xs → (i : ℕ) → getD s (at + i) 0 ≡ getD xs i 0
 number-at s at xs h i = sym (getD-drop at s i 0) ∙ ap (λ (l : List ℕ). getD l i 0) h
 
 -- row i, where its numbers stand in front of others
@@ -64,7 +65,7 @@ module _ (rows : List ℕ) where
       rw e (behind rows (3 * i) xs rest h)
 
   -- the rows behind a value, and behind a list's own row and its elements
-  past-row : (v : Value) (es : Elements) (used i : ℕ) (rest : List ℕ) → rowsFrom rows i ≡ elementRows used (value v es) ++ rest
+  pub past-row : (v : Value) (es : Elements) (used i : ℕ) (rest : List ℕ) → rowsFrom rows i ≡ elementRows used (value v es) ++ rest
       → (rowsFrom rows i ≡ valueRow used v ++ (elementRows (used + length (valueStore v)) es ++ rest))
       × (rowsFrom rows (i + 1) ≡ elementRows (used + length (valueStore v)) es ++ rest)
   past-row v es used i rest h =
@@ -72,7 +73,7 @@ module _ (rows : List ℕ) where
       let h₁ : rowsFrom rows i ≡ valueRow used v ++ (elementRows u es ++ rest) = h ∙ append-assoc (valueRow used v) (elementRows u es) rest in
       (h₁, past-rows i 1 (valueRow used v) _ (sym (value-row used v)) h₁)
 
-  past-in : (i : ℕ) (a es : Elements) (used : ℕ) (rest : List ℕ) → rowsFrom rows i ≡ elementRows used (list a es) ++ rest
+  pub past-in : (i : ℕ) (a es : Elements) (used : ℕ) (rest : List ℕ) → rowsFrom rows i ≡ elementRows used (list a es) ++ rest
       → (rowsFrom rows i ≡ listRow a ++ (elementRows used a ++ (elementRows (used + length (elementStore a)) es ++ rest)))
       × (rowsFrom rows (i + 1) ≡ elementRows used a ++ (elementRows (used + length (elementStore a)) es ++ rest))
       × (rowsFrom rows (i + 1 + elementCount a) ≡ elementRows (used + length (elementStore a)) es ++ rest)

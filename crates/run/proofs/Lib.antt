@@ -1,3 +1,1 @@
-pub mod Adding
-pub mod Answers
 pub mod Lines

@@ -1,84 +1,21 @@
--- What the program prints for any bytes, as a run of lists and what follows it: by induction on the run, from any offset at which a list of
--- it or the rest begins.
-use Prim.Native.Nat.{ℕ, zero, suc, _+_, _≤_, _<_}
-use mathlib.Core.Path.{_≡_, refl, sym, ap, _∙_}
-use mathlib.Core.List.{List, [], _∷_, _++_, append-assoc}
+-- The line of a list: how long it is, and that it tells the list's own numbers.
+use Prim.Native.Nat.{ℕ, _≤_}
+use mathlib.Core.Path.{_≡_}
+use mathlib.Core.List.{List}
 use native.Mathlib.Omega.{arith}
-use native.Mathlib.Nat.{add-zero}
-use lib.ListN.{length, drop, length-append, length-drop}
-use lib.Seq.{drop-at, drop-drop}
-use borrow.Author.Tests.{eq-eqb, ne-eqb, lt-ltb, le-ltb}
-use Rattle.wire.specs.Number.{Bytes}
+use lib.ListN.{length, length-append}
 use Rattle.list.specs.Tree.{Elements}
 use Rattle.list.specs.Bytes.{listBytes}
-use Rattle.list.specs.Rows.{listStore, rowCount}
-use Rattle.stream.specs.Step.{accepted}
-use Rattle.stream.specs.Run.{LegalRun, runBytes, StartsNone, behind}
-use Rattle.stream.proofs.Runs.{some-bytes, reads-front}
-use Rattle.stream.proofs.Handing.{Closed, closed}
-use Rattle.run.specs.Limits.{inputLimit}
-use Rattle.run.specs.Text.{listLine, listLines, lastLine, tooLong, printed, answerAt, textFrom, textOf, programText}
+use Rattle.list.specs.Rows.{rowCount}
+use Rattle.output.proofs.Digits.{decimal-short}
+use Rattle.report.specs.Added.{Added}
+use Rattle.run.specs.Limits.{longestLine}
+use Rattle.run.specs.Text.{listLine, lineOf}
 
--- the answer where a legal list stands, and behind the run
-answer-list : (s : List ℕ) (offset : ℕ) (es : Elements) (x : List ℕ) → offset < length s → drop offset s ≡ listBytes es ++ x
-    → LegalRun (es ∷ []) → answerAt s offset ≡ accepted (length (listBytes es)) (rowCount es) (length (listStore es))
-unfolding answerAt
-answer-list s offset es x f h l = rw (ne-eqb offset (length s) (λ e. omega arith), h, reads-front es x (l .0))
+pub list-short : (k consumed rows : ℕ) → length (listLine k consumed rows) ≤ longestLine
+unfolding listLine
+list-short k consumed rows = simp length-append (omega (arith, decimal-short k, decimal-short consumed, decimal-short rows))
 
-line-behind : (s : List ℕ) (offset k fuel : ℕ) (rest : List ℕ) → Closed rest → offset ≤ length s → drop offset s ≡ rest
-    → textFrom (suc fuel) s offset k ≡ lastLine offset (behind offset rest)
-unfolding textFrom answerAt
-line-behind s offset k fuel [] w f h = rw (eq-eqb offset (length s) (omega (arith, simp length-drop at (ap length h))))
-line-behind s offset k fuel (b ∷ rest) w f h =
-    let inside : offset < length s = omega (arith, simp length-drop at (ap length h)) in
-    rw (ne-eqb offset (length s) (λ e. omega arith), h, w .1)
-
-first-line : (s : List ℕ) (offset k fuel n rows stored : ℕ) → answerAt s offset ≡ accepted n rows stored
-    → textFrom (suc fuel) s offset k ≡ listLine k n rows ++ textFrom fuel s (offset + n) (suc k)
-unfolding textFrom
-first-line s offset k fuel n rows stored a = rw a
-
-lines-from : (run : List Elements) (s rest : List ℕ) (offset k fuel : ℕ) → LegalRun run → Closed rest → offset ≤ length s
-    → drop offset s ≡ runBytes run ++ rest → length run < fuel
-    → textFrom fuel s offset k ≡ listLines k run ++ lastLine (offset + length (runBytes run)) (behind (offset + length (runBytes run)) rest)
-lines-from run s rest offset k zero l w f h g = absurd (omega arith)
-lines-from [] s rest offset k (suc fuel) l w f h g =
-    line-behind s offset k fuel rest w f h ∙ ap (λ (z : ℕ). lastLine z (behind z rest)) (sym (add-zero offset))
-lines-from (es ∷ run) s rest offset k (suc fuel) l w f h g =
-    let x : List ℕ = runBytes run ++ rest in
-    let n : ℕ = length (listBytes es) in
-    let front : drop offset s ≡ listBytes es ++ x = h ∙ append-assoc (listBytes es) (runBytes run) rest in
-    let after : drop (offset + n) s ≡ x = sym (drop-drop n offset s) ∙ ap (drop n) front ∙ drop-at (listBytes es) x n refl in
-    let fits : offset + n ≤ length s = omega (arith, some-bytes es, simp (length-drop, length-append) at (ap length front)) in
-    let inside : offset < length s = omega (arith, some-bytes es) in
-    let size : offset + n + length (runBytes run) ≡ offset + length (listBytes es ++ runBytes run) = omega (arith, length-append (listBytes es) (runBytes run)) in
-    let rest-of = lines-from run s rest (offset + n) (suc k) fuel (l .1) w fits after (omega arith) in
-    first-line s offset k fuel n (rowCount es) (length (listStore es)) (answer-list s offset es x inside front (l .0, tt))
-    ∙ ap (λ (z : List ℕ). listLine k n (rowCount es) ++ z) (rest-of ∙ ap (λ (z : ℕ). listLines (suc k) run ++ lastLine z (behind z rest)) size)
-    ∙ sym (append-assoc (listLine k n (rowCount es)) (listLines (suc k) run) _)
-
-many-bytes : (run : List Elements) → length run ≤ length (runBytes run)
-many-bytes [] = omega arith
-many-bytes (es ∷ run) = omega (arith, many-bytes run, some-bytes es, length-append (listBytes es) (runBytes run))
-
--- the program's text for a run and bytes that start with no legal list
-pub text-printed : (run : List Elements) (rest : List ℕ) → LegalRun run → Bytes rest → StartsNone rest → textOf (runBytes run ++ rest) ≡ printed run rest
-text-printed run rest l b n =
-    lines-from run (runBytes run ++ rest) rest 0 1 (suc (length (runBytes run ++ rest))) l (closed rest b n) (omega arith) refl
-    (omega (arith, many-bytes run, length-append (runBytes run) rest))
-    ∙ ap (λ (z : ℕ). listLines 1 run ++ lastLine z (behind z rest)) (omega arith)
-
--- the limit of the input
-pub within-limit : (s : List ℕ) → length s ≤ inputLimit → programText s ≡ textOf s
-unfolding programText
-within-limit s h = rw (le-ltb inputLimit (length s) h)
-
-pub over-limit : (s : List ℕ) → inputLimit < length s → programText s ≡ tooLong
-unfolding programText
-over-limit s h = rw (lt-ltb inputLimit (length s) h)
-
--- LAW: what the program prints for a run and bytes that start with no legal list, within the limit
-pub program-printed :
-    (run : List Elements) (rest : List ℕ) → LegalRun run → Bytes rest → StartsNone rest → length (runBytes run ++ rest) ≤ inputLimit
-    → programText (runBytes run ++ rest) ≡ printed run rest
-program-printed run rest l b n h = within-limit (runBytes run ++ rest) h ∙ text-printed run rest l b n
+pub own-numbers : {old new : List ℕ} {at to n m : ℕ} (k : ℕ) (es : Elements) → n ≡ length (listBytes es) → m ≡ rowCount es
+    → Added old at new to (listLine k n m) → Added old at new to (lineOf k es)
+own-numbers k es size count d = rw (size, count) at d

@@ -4,20 +4,18 @@ ghost use mathlib.Core.Path.{_≡_};
 ghost use lib.ListN.{length, take};
 ghost use Rattle.io.specs.Counts.{Counts};
 ghost use Rattle.list.specs.Limits.{rowRoom, storeRoom};
-ghost use Rattle.list.specs.Refusal.{refusalOf};
-ghost use Rattle.run.specs.Limits.{inputLimit, longestLine, textRoom};
-ghost use Rattle.run.specs.Text.{listLine, endLine, stopLine, textOf, programText};
-ghost use Rattle.run.specs.Added.{Added};
+ghost use Rattle.report.specs.Limits.{inputLimit};
+ghost use Rattle.report.specs.Added.{Added};
+ghost use Rattle.report.specs.Text.{textOf, programText};
+ghost use Rattle.run.specs.Limits.{longestLine, textRoom};
+ghost use Rattle.run.specs.Text.{listLine, lineOf};
 use libc::STDIN_FILENO;
 use libc::STDOUT_FILENO;
 use list::NUMBER;
 use list::ROW_BYTES;
-use list::Refusal;
 use list::STORE_ROOM;
+use report::INPUT_LIMIT;
 use stream::Step;
-
-// "over 32,768 bytes it prints `too long`": one byte more is read, to tell.
-const INPUT_LIMIT: usize = 32768;
 
 // The longest line: three labels, 18 bytes together, three numbers of up to 20 digits and a newline.
 const LONGEST_LINE: usize = 18 + 3 * 20 + 1;
@@ -26,6 +24,7 @@ const LONGEST_LINE: usize = 18 + 3 * 20 + 1;
 const TEXT_ROOM: usize = LONGEST_LINE * (INPUT_LIMIT / (2 * NUMBER) + 1);
 
 fn main() {
+    // One byte more than the limit is read, to tell.
     let mut input = [0u8; INPUT_LIMIT + 1];
     let n = io::read_full(STDIN_FILENO, &mut input);
     let mut rows = [0u8; ROW_BYTES];
@@ -38,10 +37,10 @@ fn main() {
 // What is printed for the bytes that were read; answers the bytes of text.
 fn report(bytes: &[u8], rows: &mut [u8], store: &mut [u8], text: &mut [u8]) -> usize
     requires { ⌜ (length (now rows) ≡ 4 * rowRoom) × (length (now store) ≡ storeRoom) × (length (now text) ≡ textRoom) ⌝ }
-    ensures { λ r. ⌜ (take r (now (text .exit)) ≡ programText (now (bytes .entry))) × Counts r (now (text .exit)) ⌝ }
+    ensures { λ r. ⌜ (take r (now (text .exit)) ≡ programText lineOf (now (bytes .entry))) × Counts r (now (text .exit)) ⌝ }
 {
-    if INPUT_LIMIT < bytes.len() {
-        return output::put(text, 0, b"too long\n");
+    if report::is_too_long(bytes) {
+        return report::put_too_long(text, 0);
     }
     stream_text(bytes, rows, store, text)
 }
@@ -49,7 +48,7 @@ fn report(bytes: &[u8], rows: &mut [u8], store: &mut [u8], text: &mut [u8]) -> u
 // All lines of a stream.
 fn stream_text(bytes: &[u8], rows: &mut [u8], store: &mut [u8], text: &mut [u8]) -> usize
     requires { ⌜ (length (now bytes) ≤ inputLimit) × (length (now rows) ≡ 4 * rowRoom) × (length (now store) ≡ storeRoom) × (length (now text) ≡ textRoom) ⌝ }
-    ensures { λ r. ⌜ (take r (now (text .exit)) ≡ textOf (now (bytes .entry))) × Counts r (now (text .exit)) ⌝ }
+    ensures { λ r. ⌜ (take r (now (text .exit)) ≡ textOf lineOf (now (bytes .entry))) × Counts r (now (text .exit)) ⌝ }
 {
     let mut offset: usize = 0;
     let mut used: usize = 0;
@@ -66,8 +65,8 @@ fn stream_text(bytes: &[u8], rows: &mut [u8], store: &mut [u8], text: &mut [u8])
                 offset += consumed;
                 k += 1;
             }
-            Step::End => return end_line(text, used, offset),
-            Step::Refused(refusal) => return stop_line(text, used, refusal),
+            Step::End => return report::put_end(text, used, offset),
+            Step::Refused(refusal) => return report::put_stop(text, used, refusal),
         }
     }
 }
@@ -80,21 +79,4 @@ fn list_line(text: &mut [u8], used: usize, k: usize, consumed: usize, rows: usiz
     let a = output::put_number(text, used, b"list ", k as u64);
     let b = output::put_number(text, a, b" bytes ", consumed as u64);
     output::put_line(text, b, b" rows ", rows as u64)
-}
-
-// `end 112`
-fn end_line(text: &mut [u8], used: usize, offset: usize) -> usize
-    requires { ⌜ used + longestLine ≤ length (now text) ⌝ }
-    ensures { λ r. ⌜ Added (now (text .entry)) used (now (text .exit)) r (endLine offset) × (r ≤ used + longestLine) ⌝ }
-{
-    output::put_line(text, used, b"end ", offset as u64)
-}
-
-// `stop 21 at 112`
-fn stop_line(text: &mut [u8], used: usize, refusal: Refusal) -> usize
-    requires { ⌜ used + longestLine ≤ length (now text) ⌝ }
-    ensures { λ r. ⌜ Added (now (text .entry)) used (now (text .exit)) r (stopLine (refusalOf refusal)) × (r ≤ used + longestLine) ⌝ }
-{
-    let a = output::put_number(text, used, b"stop ", refusal.error as u64);
-    output::put_line(text, a, b" at ", refusal.offset as u64)
 }

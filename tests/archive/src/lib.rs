@@ -8,9 +8,11 @@ pub use hub::{hub_detach, hub_publish, hub_read, hub_receive};
 pub use list::list_decode;
 #[cfg(feature = "packet")]
 pub use packet::packet_decode;
-pub use results::{ListResult, PacketResult, ValueResult, WriteResult};
+pub use results::{ListResult, PacketResult, TextResult, ValueResult, WriteResult};
 #[cfg(feature = "stream")]
 pub use stream::stream_next;
+#[cfg(feature = "text")]
+pub use text::{text_decode, text_encode};
 #[cfg(feature = "writers")]
 pub use writers::{list_encode, packet_encode};
 
@@ -40,6 +42,15 @@ mod results {
     pub struct WriteResult {
         pub error: u64,
         pub written: u64,
+    }
+
+    /// `cinder_text_result`.
+    #[repr(C)]
+    #[derive(Clone, Copy, PartialEq, Eq, Debug)]
+    pub struct TextResult {
+        pub error: u64,
+        pub rows: u64,
+        pub stored: u64,
     }
 
     /// `cinder_value_result`.
@@ -294,6 +305,61 @@ mod writers {
                 store.len(),
                 list.as_mut_ptr(),
                 list.len(),
+            )
+        }
+    }
+}
+
+#[cfg(feature = "text")]
+mod text {
+    use super::{TextResult, WriteResult};
+
+    extern "C" {
+        fn cinder_text_encode(
+            rows: *const u8,
+            rows_len: usize,
+            store: *const u8,
+            store_len: usize,
+            text: *mut u8,
+            text_len: usize,
+        ) -> WriteResult;
+
+        fn cinder_text_decode(
+            text: *const u8,
+            text_len: usize,
+            rows: *mut u8,
+            rows_len: usize,
+            store: *mut u8,
+            store_len: usize,
+        ) -> TextResult;
+    }
+
+    #[inline]
+    pub fn text_encode(rows: &[u8], store: &[u8], text: &mut [u8]) -> WriteResult {
+        // SAFETY: each pointer and length come from one slice.
+        unsafe {
+            cinder_text_encode(
+                rows.as_ptr(),
+                rows.len(),
+                store.as_ptr(),
+                store.len(),
+                text.as_mut_ptr(),
+                text.len(),
+            )
+        }
+    }
+
+    #[inline]
+    pub fn text_decode(text: &[u8], rows: &mut [u8], store: &mut [u8]) -> TextResult {
+        // SAFETY: each pointer and length come from one slice.
+        unsafe {
+            cinder_text_decode(
+                text.as_ptr(),
+                text.len(),
+                rows.as_mut_ptr(),
+                rows.len(),
+                store.as_mut_ptr(),
+                store.len(),
             )
         }
     }

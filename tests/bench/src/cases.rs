@@ -4,6 +4,8 @@
 use crate::hub;
 #[cfg(any(feature = "packet", feature = "list", feature = "stream"))]
 use crate::readers;
+#[cfg(feature = "text")]
+use crate::texts;
 use std::hint::black_box;
 
 /// The second reader, the C readers, and the product.
@@ -65,5 +67,7 @@ pub fn all() -> Vec<Box<dyn Case>> {
     cases.extend(readers::all());
     #[cfg(feature = "hub")]
     cases.extend(hub::all());
+    #[cfg(feature = "text")]
+    cases.extend(texts::all());
     cases
 }

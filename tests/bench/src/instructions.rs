@@ -2,11 +2,11 @@
 
 use crate::cases::Case;
 use crate::programs::{self, Input};
-use second_reader::generate::{list, replay};
+use second_reader::generate::{list, replay, text};
 use second_reader::list::LIST_LIMIT;
 use second_reader::random::Random;
 use second_reader::replay::replay_output;
-use second_reader::stream::{run_output, RUN_LIMIT};
+use second_reader::stream::{run_output, show_output, RUN_LIMIT};
 use std::io::Read;
 use std::path::Path;
 use std::process::{Command, ExitCode, Stdio};
@@ -51,6 +51,7 @@ pub fn as_program(name: &str) -> ExitCode {
     match name {
         "run" => print!("{}", run_output(&input)),
         "replay" => print!("{}", replay_output(&input)),
+        "show" => print!("{}", show_output(&input)),
         _ => return ExitCode::from(2),
     }
     ExitCode::SUCCESS
@@ -65,8 +66,13 @@ pub fn of_programs() {
         lists.extend(list::image(&list::legal(&mut random)));
     }
     let script = replay::good(&mut random, 400);
+    let mut shown = Vec::new();
+    while shown.len() < RUN_LIMIT - LIST_LIMIT {
+        shown.extend(list::image(&text::small(&mut random, LIST_LIMIT)));
+    }
     of_program("run", &lists, &[]);
     of_program("replay", &script, &[3, 0, 0, 0, 0]);
+    of_program("show", &shown, &[]);
 }
 
 fn of_program(name: &str, long: &[u8], short: &[u8]) {

@@ -7,10 +7,16 @@
 //!   bench --no-instructions          time only
 //!   bench --one CASE SIDE TIMES      just those calls, for callgrind; SIDE is reader,
 //!                                    plain, tuned or archive
-//!   bench --as run|replay            the second reader as that program
+//!   bench --as run|replay|show       the second reader as that program
 
-#[cfg(not(any(feature = "packet", feature = "list", feature = "stream", feature = "hub")))]
-compile_error!("name the calls to measure: --features packet, list, stream, hub");
+#[cfg(not(any(
+    feature = "packet",
+    feature = "list",
+    feature = "stream",
+    feature = "hub",
+    feature = "text"
+)))]
+compile_error!("name the calls to measure: --features packet, list, stream, hub, text");
 
 mod cases;
 #[cfg(feature = "hub")]
@@ -25,6 +31,8 @@ mod plain;
 mod programs;
 #[cfg(any(feature = "packet", feature = "list", feature = "stream"))]
 mod readers;
+#[cfg(feature = "text")]
+mod texts;
 
 use cases::{Case, Side};
 use std::process::ExitCode;

@@ -1,4 +1,4 @@
-//! The error numbers of document 01, "Refusal numbers".
+//! The error numbers of document 01, "Refusal numbers", and of the tickets in 02.
 
 /// Each case is one line of the table; its number is the paper's.
 #[derive(Clone, Copy, PartialEq, Eq, Debug)]
@@ -33,6 +33,8 @@ pub enum Error {
     TooDeep = 27,
     BeyondLimit = 28,
     NotOneList = 30,
+    NoTextForm = 31,
+    NotAText = 32,
 }
 
 impl Error {

@@ -1,5 +1,5 @@
-//! Packets, lists and the hub as document 01 and the readings of its open points
-//! describe them, written without looking at the product, to compare it with.
+//! Packets, lists and the hub as document 01, the tickets in 02 and the readings of their
+//! open points describe them, written without looking at the product, to compare it with.
 //!
 //! Every call judges its whole input first and then fills the lent buffers, so an
 //! error leaves them as they were. No call allocates, apart from those that answer
@@ -18,5 +18,6 @@ pub mod random;
 pub mod replay;
 pub mod stream;
 pub mod table;
+pub mod text;
 
 pub use error::Error;

@@ -20,9 +20,9 @@ pub const STORE_ROOM: usize = 4096;
 /// The code of a list whose elements follow their own codes.
 pub const LIST_CODE: u32 = 256;
 
-const WORD: usize = 4;
+pub(crate) const WORD: usize = 4;
 /// A list's code and count.
-const LIST_HEADER: usize = 2 * WORD;
+pub(crate) const LIST_HEADER: usize = 2 * WORD;
 
 /// The kinds of element other than list, by their codes.
 #[derive(Clone, Copy, PartialEq, Eq, Debug)]
@@ -364,17 +364,17 @@ impl Fill<'_> {
 }
 
 #[inline]
-fn write_row(row: &mut [u8], code: u32, second: u32, third: u32) {
+pub(crate) fn write_row(row: &mut [u8], code: u32, second: u32, third: u32) {
     row[..4].copy_from_slice(&code.to_le_bytes());
     row[4..8].copy_from_slice(&second.to_le_bytes());
     row[8..12].copy_from_slice(&third.to_le_bytes());
 }
 
-type Row = [u8; ROW_BYTES];
+pub(crate) type Row = [u8; ROW_BYTES];
 
 /// A row's three numbers.
 #[inline]
-fn numbers_of(row: &Row) -> [u32; 3] {
+pub(crate) fn numbers_of(row: &Row) -> [u32; 3] {
     [0, 4, 8].map(|at| word_at(row, at))
 }
 
@@ -384,6 +384,20 @@ pub fn encode(rows: &[u8], store: &[u8], list: &mut [u8]) -> Result<usize, Error
     if list.len() < LIST_LIMIT {
         return Err(Error::BufferTooSmall);
     }
+    let mut codes = [0; ROW_LIMIT];
+    let rows = judge_rows(rows, store, |row, code| codes[row] = code)?;
+    let mut image = Image { rows, next: 0, codes: &codes, store, list, at: 0 };
+    image.list();
+    Ok(image.at)
+}
+
+/// The rows of a list that can be written, or the first of the errors 30, 27 and 28. Tells
+/// the row of each list and the code that it is written with.
+pub(crate) fn judge_rows<'a>(
+    rows: &'a [u8],
+    store: &[u8],
+    tell: impl FnMut(usize, u32),
+) -> Result<&'a [Row], Error> {
     let (rows, left_over) = rows.as_chunks::<ROW_BYTES>();
     if !left_over.is_empty() || !describe_one_list(rows, store) {
         return Err(Error::NotOneList);
@@ -391,16 +405,10 @@ pub fn encode(rows: &[u8], store: &[u8], list: &mut [u8]) -> Result<usize, Error
     if too_deep(rows) {
         return Err(Error::TooDeep);
     }
-    if rows.len() > ROW_LIMIT {
+    if rows.len() > ROW_LIMIT || (Plan { rows, next: 0, tell }).list_size() > LIST_LIMIT {
         return Err(Error::BeyondLimit);
     }
-    let mut plan = Plan { rows, next: 0, codes: [0; ROW_LIMIT] };
-    if plan.list_size() > LIST_LIMIT {
-        return Err(Error::BeyondLimit);
-    }
-    let mut image = Image { rows, next: 0, codes: &plan.codes, store, list, at: 0 };
-    image.list();
-    Ok(image.at)
+    Ok(rows)
 }
 
 /// Whether the rows are one list with all that is in it, of any depth and size, and
@@ -472,14 +480,14 @@ fn too_deep(rows: &[Row]) -> bool {
 }
 
 /// Finds the code of every list and the size of the whole.
-struct Plan<'a> {
+struct Plan<'a, Tell> {
     rows: &'a [Row],
     next: usize,
-    /// For the row of a list, the code it is written with.
-    codes: [u32; ROW_LIMIT],
+    /// Takes the row of a list and the code it is written with.
+    tell: Tell,
 }
 
-impl Plan<'_> {
+impl<Tell: FnMut(usize, u32)> Plan<'_, Tell> {
     /// The bytes of the list whose row is next.
     fn list_size(&mut self) -> usize {
         let own = self.next;
@@ -501,7 +509,7 @@ impl Plan<'_> {
             }
         }
         let typed = count > 0 && one_kind && first != LIST_CODE;
-        self.codes[own] = if typed { LIST_CODE + first } else { LIST_CODE };
+        (self.tell)(own, if typed { LIST_CODE + first } else { LIST_CODE });
         if typed {
             size
         } else {

@@ -1,10 +1,11 @@
-//! A stream of lists, read one at a time, and the run program's output.
+//! A stream of lists, read one at a time, and the output of the programs run and show.
 
-use crate::list::{self, Decoded, ListError, ROWS_ROOM, STORE_ROOM};
+use crate::list::{self, Decoded, ListError, ROWS_ROOM, ROW_BYTES, STORE_ROOM};
+use crate::text::{self, TEXT_ROOM};
 use crate::Error;
 use std::fmt::Write;
 
-/// The most bytes that the run program reads.
+/// The most bytes that the programs run and show read.
 pub const RUN_LIMIT: usize = 32_768;
 
 /// The answer of one step that is no error.
@@ -48,6 +49,25 @@ pub fn next(
 
 /// What the run program prints for this standard input.
 pub fn run_output(input: &[u8]) -> String {
+    let mut number = 0;
+    lines_of(input, |Decoded { consumed, rows, .. }, _, _| {
+        number += 1;
+        format!("list {number} bytes {consumed} rows {rows}")
+    })
+}
+
+/// What the show program prints for this standard input.
+pub fn show_output(input: &[u8]) -> String {
+    let mut text = [0; TEXT_ROOM];
+    lines_of(input, |_, rows, store| match text::encode(rows, store, &mut text) {
+        Ok(length) => String::from_utf8_lossy(&text[..length]).into_owned(),
+        Err(error) => format!("refused {}", error.number()),
+    })
+}
+
+/// A line for each list of the stream, from its sizes, its rows and its store, and a last
+/// one that says where the stream ends or stops.
+fn lines_of(input: &[u8], mut line: impl FnMut(Decoded, &[u8], &[u8]) -> String) -> String {
     if input.len() > RUN_LIMIT {
         return String::from("too long\n");
     }
@@ -55,11 +75,13 @@ pub fn run_output(input: &[u8]) -> String {
     let mut store = [0; STORE_ROOM];
     let mut output = String::new();
     let mut offset = 0;
-    for number in 1.. {
+    loop {
         match next(input, offset, &mut rows, &mut store) {
-            Ok(Step::List(Decoded { consumed, rows, .. })) => {
-                let _ = writeln!(output, "list {number} bytes {consumed} rows {rows}");
-                offset += consumed as u64;
+            Ok(Step::List(decoded)) => {
+                let of_list = (&rows[..ROW_BYTES * decoded.rows], &store[..decoded.stored]);
+                output += &line(decoded, of_list.0, of_list.1);
+                output.push('\n');
+                offset += decoded.consumed as u64;
             }
             Ok(Step::End) => {
                 let _ = writeln!(output, "end {offset}");

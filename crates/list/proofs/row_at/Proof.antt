@@ -1,31 +1,51 @@
--- `list::row_at` meets its contract.
-use Prim.Native.Nat.{_*_, _+_}
+-- `list::row_at` meets its contract: each number is read from its part of the row.
+use Prim.Native.Nat.{ℕ, _*_, _+_}
+use mathlib.Core.Path.{_≡_}
+use mathlib.Core.List.{List}
 use native.Mathlib.Omega.{arith}
 use borrow.Author.Needs.{needs}
+use lib.ListN.{getD}
 use Rattle.list.specs.Limits.{rowNumbers}
-use Rattle.list.proofs.RowBytes.{unpacked-past}
+use Rattle.list.specs.RowBytes.{unpacked}
+use Rattle.list.proofs.RowBytes.{unpacked-part}
 use Rattle.list.proofs.row_at.Statement.{statement}
 use Rattle.list.proofs.row_at.Tie as tie
 
 returns : tie.Need-returns
 returns c =
-    let rows = c .before .before .args .rows .now in
-    let at = rowNumbers * (c .before .before .args .i) in
-    let past = c .if1 .taken in
-    rw (unpacked-past rows at (omega (arith, past)), unpacked-past rows (at + 1) (omega (arith, past)), unpacked-past rows (at + 2) (omega (arith, past)))
-
-returns-2 : tie.Need-returns-2
-returns-2 c = rw (c .before .before .number-at .ensures, c .before .number-at2 .ensures, c .number-at3 .ensures)
+    let c₆ = c .before .before .before .before .before .before in
+    let a = c₆ .before .before .args in
+    let rows : List ℕ = a .rows .now in
+    let at : ℕ = rowNumbers * (a .i) in
+    let inside = c₆ .if1 .taken in
+    let one : c .before .before .before .before .u32-at .result ≡ getD (unpacked rows) at 0 =
+    unpacked-part rows at (12 * a .i) (12 * a .i + 4) _ (omega arith) (omega arith) (omega arith) (c .before .before .before .before .u32-at .ensures) in
+    let two : c .before .before .u32-at2 .result ≡ getD (unpacked rows) (at + 1) 0 =
+    unpacked-part rows (at + 1) (12 * a .i + 4) (12 * a .i + 4 + 4) _ (omega arith) (omega arith) (omega arith) (c .before .before .u32-at2 .ensures) in
+    let three : c .u32-at3 .result ≡ getD (unpacked rows) (at + 2) 0 =
+    unpacked-part rows (at + 2) (12 * a .i + 4 + 4) (12 * a .i + 4 + 4 + 4) _ (omega arith) (omega arith) (omega arith) (c .u32-at3 .ensures) in
+    rw (one, two, three)
 
 pub row-at-spec : {M : Type 1} → statement M
 row-at-spec =
     tie.close
     (tie.spec
+    (λ c. search needs)
+    (λ c. search needs)
+    (λ c. search needs)
+    (λ c. search needs)
+    (λ c. search needs)
+    (λ c. search needs)
+    (λ c κs. search needs)
+    (λ c. search needs)
+    (λ c. search needs)
+    (λ c. search needs)
+    (λ c κs. search needs)
+    (λ c. search needs)
+    (λ c. search needs)
+    (λ c. search needs)
+    (λ c. search needs)
+    (λ c κs. search needs)
     returns
-    (λ c. search needs)
     (λ c κs. search needs)
-    (λ c. search needs)
-    (λ c κs. search needs)
-    (λ c. search needs)
-    (λ c κs. search needs)
-    returns-2)
+    (λ c. search needs))

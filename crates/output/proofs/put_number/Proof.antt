@@ -1,7 +1,7 @@
 -- `output::put_number` meets its contract: the digits that `io::decimal` puts are the decimal digits.
 use mathlib.Core.Path.{ap, _∙_}
 use borrow.Author.Needs.{needs}
-use Rattle.output.specs.Digits.{decimal}
+use Rattle.digits.specs.Decimal.{decimal}
 use Rattle.output.specs.Output.{put, puts}
 use Rattle.output.proofs.Digits.{decimal-digits}
 use Rattle.output.proofs.put_number.Statement.{statement}

@@ -1,7 +1,11 @@
 -- `run::list_line` meets its contract: its pieces in a row.
+use mathlib.Core.Path.{ap, _∙_}
+use lib.ListN.{take, drop}
 use borrow.Author.Needs.{needs}
-use Rattle.run.specs.Text.{listLine}
-use Rattle.run.proofs.Adding.{two-pieces, number-added, line-added}
+use Rattle.output.specs.Output.{puts}
+use Rattle.report.proofs.Adding.{pieces-added}
+use Rattle.run.specs.Text.{listPieces, listLine}
+use Rattle.run.proofs.Lines.{list-short}
 use Rattle.run.proofs.list_line.Statement.{statement}
 use Rattle.run.proofs.list_line.Tie as tie
 
@@ -27,12 +31,17 @@ same-length : tie.Need-same-length
 same-length c = search needs
 
 returns : tie.Need-returns
-unfolding listLine
+unfolding listLine puts
 returns c =
-    let first = number-added _ _ (c .before .before .before .before .before .before .before .before .before .before .before .before .put-number .ensures) (search needs) in
-    let second = number-added _ _ (c .before .before .before .before .before .before .before .put-number2 .ensures) (search needs) in
-    let third = line-added _ _ (c .before .before .put-line .ensures) (search needs) in
-    (two-pieces (first .0) (two-pieces (second .0) (third .0)), search needs)
+    let a = c .before .before .before .before .before .before .before .before .before .before .before .before .before .before .before .before .args in
+    let first = c .before .before .before .before .before .before .before .before .before .before .before .before .put-number .ensures in
+    let second = c .before .before .before .before .before .before .before .put-number2 .ensures in
+    let third = c .before .before .put-line .ensures in
+    let pieces = listPieces (a .k) (a .consumed) (a .rows) in
+    let all = third ∙ ap (λ t. puts t (drop 4 pieces)) (second ∙ ap (λ t. puts t (take 2 (drop 2 pieces))) first) in
+    let short = list-short (a .k) (a .consumed) (a .rows) in
+    let added = pieces-added pieces all (search needs) in
+    (added, search needs)
 
 pub list-line-spec : {M : Type 1} → statement M
 list-line-spec =

@@ -1,32 +1,41 @@
 -- `run::report` meets its contract: `too long` above the limit, else the stream's lines.
 use mathlib.Core.Path.{sym, _∙_}
+use lib.ListN.{length}
 use lib.Seq.{length-take-le}
+use borrow.Author.Tests.{ltb-true, ltb-false}
 use borrow.Author.Needs.{needs}
-use Rattle.run.specs.Text.{tooLong}
-use Rattle.run.proofs.Adding.{one-piece}
-use Rattle.run.proofs.Lines.{within-limit, over-limit}
+use Rattle.report.specs.Limits.{inputLimit}
+use Rattle.report.specs.Text.{tooLong}
+use Rattle.report.proofs.Adding.{one-piece}
+use Rattle.report.proofs.Lines.{within-limit, over-limit}
+use Rattle.run.specs.Text.{lineOf}
 use Rattle.run.proofs.report.Statement.{statement}
 use Rattle.run.proofs.report.Tie as tie
 
-slice-aggregate-put : tie.Need-slice-aggregate-put
-slice-aggregate-put c = search needs
+is-too-long-requires : tie.Need-is-too-long-requires
+is-too-long-requires c κs = search needs
 
-put-requires : tie.Need-put-requires
-put-requires c κs = search needs
+put-too-long-requires : tie.Need-put-too-long-requires
+put-too-long-requires c κs = search needs
 
 same-length : tie.Need-same-length
 same-length c = search needs
 
 returns : tie.Need-returns
-unfolding tooLong
 returns c =
-    let a = c .before .before .before .before .before .before .before .before .before .before .args in
-    let added = one-piece _ (c .before .before .put .ensures) (search needs) in
+    let test = c .before .before .before .before in
+    let s = test .before .before .before .before .before .before .args .bytes .now in
+    let long = ltb-true inputLimit (length s) (sym (test .before .is-too-long .ensures) ∙ test .if1 .taken) in
+    let added = one-piece tooLong (c .before .before .put-too-long .ensures) (search needs) in
     let size = added .size in
-    (added .front ∙ sym (over-limit (a .bytes .now) (search needs)), (search needs, sym (length-take-le _ _ (search needs))))
+    (added .front ∙ sym (over-limit lineOf s long), (search needs, sym (length-take-le _ _ (search needs))))
 
 stream-text-requires : tie.Need-stream-text-requires
-stream-text-requires c κs = search needs
+stream-text-requires c κs =
+    let test = c .before .before .before in
+    let s = test .before .before .before .before .before .before .args .bytes .now in
+    let short = ltb-false inputLimit (length s) (sym (test .before .is-too-long .ensures) ∙ test .if1 .left) in
+    search needs
 
 same-length-2 : tie.Need-same-length-2
 same-length-2 c = search needs
@@ -39,16 +48,18 @@ same-length-4 c = search needs
 
 returns-2 : tie.Need-returns-2
 returns-2 c =
-    let a = c .before .before .before .before .before .before .before .before .before .before .before .before .before .before .before .args in
+    let test = c .before .before .before .before .before .before .before .before .before .before in
+    let s = test .before .before .before .before .before .before .args .bytes .now in
+    let short = ltb-false inputLimit (length s) (sym (test .before .is-too-long .ensures) ∙ test .if1 .left) in
     let lines = c .before .before .before .before .before .before .stream-text .ensures in
-    (lines .0 ∙ sym (within-limit (a .bytes .now) (search needs)), lines .1)
+    (lines .0 ∙ sym (within-limit lineOf s short), lines .1)
 
 pub report-spec : {M : Type 1} → statement M
 report-spec =
     tie.close
     (tie.spec
-    slice-aggregate-put
-    put-requires
+    is-too-long-requires
+    put-too-long-requires
     same-length
     returns
     stream-text-requires

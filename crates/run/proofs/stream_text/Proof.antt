@@ -1,53 +1,55 @@
 -- `run::stream_text` meets its contract. The loop's invariant: the text so far and the text from here on are the whole; each list before the k-th
 -- has the bytes of the shortest list or more, and a line of bounded length. The measure is what is left of the bytes.
-use Prim.Native.Nat.{ℕ, _+_, _-_, _*_, _≤_}
-use mathlib.Core.Path.{_≡_, sym, ap}
-use mathlib.Core.List.{_++_}
+use Prim.Native.Nat.{_+_, _-_, _*_, _≤_}
+use mathlib.Core.Path.{_≡_, refl, sym}
 use native.Mathlib.Omega.{arith}
 use lib.ListN.{length, take}
 use lib.Seq.{length-take-le}
 use borrow.Author.Needs.{needs}
 use Rattle.list.specs.Limits.{rowRoom, storeRoom}
-use Rattle.run.specs.Limits.{inputLimit, longestLine, leastList, textRoom}
-use Rattle.run.specs.Text.{textFrom, textOf}
-use Rattle.run.proofs.Answers.{ListAt, answered, list-found, text-list, text-end, text-stop}
+use Rattle.list.specs.Refusal.{refusalOf}
+use Rattle.report.specs.Limits.{inputLimit, leastList}
+use Rattle.report.specs.Text.{endPieces, endLine, stopPieces, stopLine, textOf}
+use Rattle.report.proofs.Adding.{pieces-added, end-short, stop-short}
+use Rattle.report.proofs.Answers.{ListAt, Left, end-found, stop-found, list-found, text-list, text-end, text-stop}
+use Rattle.run.specs.Limits.{longestLine, textRoom}
+use Rattle.run.specs.Text.{lineOf}
+use Rattle.run.proofs.Lines.{own-numbers}
 use Rattle.run.proofs.stream_text.Statement.{statement}
 use Rattle.run.proofs.stream_text.Tie as tie
 use Rattle.run.proofs.stream_text.Reads as reads
 use Rattle.run.proofs.stream_text.Lts as lts
-use Rattle.run.proofs.end_line.Reads as end-line-reads
 use Rattle.run.proofs.list_line.Reads as list-line-reads
-use Rattle.run.proofs.stop_line.Reads as stop-line-reads
+use Rattle.report.proofs.put_end.Reads as put-end-reads
+use Rattle.report.proofs.put_stop.Reads as put-stop-reads
 use Rattle.stream.proofs.next.Reads as next-reads
 
 abbrev Inv-loop : tie.InvT-loop
 Inv-loop bytes rows₀ store₀ text₀ offset₀ used₀ k₀ rows store text offset used k =
     (length bytes ≤ inputLimit) × (length rows ≡ 4 * rowRoom) × (length store ≡ storeRoom) × (length text ≡ textRoom)
     × (offset ≤ length bytes) × (1 ≤ k) × (leastList * k ≤ offset + leastList) × (used + longestLine ≤ longestLine * k)
-    × (take used text ++ textFrom (length bytes + 2 - k) bytes offset k ≡ textOf bytes)
+    × Left lineOf bytes (textOf lineOf bytes) offset k (take used text)
 
 abbrev μ-loop : tie.MeasureT-loop
 μ-loop bytes rows₀ store₀ text₀ offset₀ used₀ k₀ rows store text offset used k = length bytes - offset
 
--- behind the line of a list
-abbrev After-line : Type 0
-After-line =
-    lts.After-slice-known6
-    (next-reads.Asked, next-reads.Learnt, list-line-reads.Asked, list-line-reads.Learnt, end-line-reads.Asked, end-line-reads.Learnt, stop-line-reads.Asked, stop-line-reads.Learnt)
+-- where a list was handed over
+abbrev After-list : Type 0
+After-list =
+    lts.After-known-told
+    (next-reads.Asked, next-reads.Learnt, list-line-reads.Asked, list-line-reads.Learnt, put-end-reads.Asked, put-end-reads.Learnt, put-stop-reads.Asked, put-stop-reads.Learnt)
     reads.Pre reads.Post Inv-loop μ-loop
 
-here : (c : After-line)
+here : (c : After-list)
     → ListAt
-    (c .before .before .before .before .before .before .before .before .before .before .before .before .before .before .before .before .before .before .before .args .bytes .now)
-    (c .before .before .before .before .before .before .before .before .before .before .before .before .before .before .loop .offset)
-    (c .before .before .before .before .before .step .given .0 .0) (c .before .before .before .before .before .step .given .0 .1 .0)
-    (c .before .before .before .before .before .step .given .0 .1 .1 .0)
+    (c .before .before .before .before .before .before .before .before .before .before .before .before .before .before .before .args .bytes .now)
+    (c .before .before .before .before .before .before .before .before .before .before .loop .offset)
+    (c .before .step .given .0 .0) (c .before .step .given .0 .1 .0) (c .before .step .given .0 .1 .1 .0)
 here c =
-    let l = c .before .before .before .before .before .before .before .before .before .before .before .before .before .before .loop in
-    list-found _ (l .offset) _ _ _ _ _ _ _ _ (l .inv .1) (l .inv .2) (l .inv .4)
-    (c .before .before .before .before .before .before .before .before .before .before .before .before .before .before .before .before .before .before .shared-slice-known .given)
-    (c .before .before .before .before .before .before .before .before .before .before .before .next .ensures)
-    (c .before .before .before .before .before .step .given .1)
+    let l = c .before .before .before .before .before .before .before .before .before .before .loop in
+    list-found _ (l .offset) (l .rows) (l .store) _ _ _ (l .inv .1) (l .inv .2) (l .inv .4) (c .before .before .before .before .before .before .before .next .ensures)
+    (c .before .before .before .before .before .before .before .before .before .before .before .before .before .before .shared-slice-known .given)
+    _ _ _ (c .before .step .given .1)
 
 loop-holds : tie.Need-loop-holds Inv-loop μ-loop
 loop-holds c = (
@@ -59,7 +61,7 @@ loop-holds c = (
   search needs,
   search needs,
   search needs,
-  ap (λ (f : ℕ). textFrom f (c .before .before .before .before .args .bytes .now) 0 1) (omega arith),
+  record { fuel = length (c .before .before .before .before .args .bytes .now); enough = omega arith; text = refl },
 )
 
 next-requires : tie.Need-next-requires Inv-loop μ-loop
@@ -75,28 +77,29 @@ list-line-requires : tie.Need-list-line-requires Inv-loop μ-loop
 list-line-requires c κs = search needs
 
 add-offset : tie.Need-add-offset Inv-loop μ-loop
-add-offset c = let found = here c in search needs
+add-offset c = let found = here (c .before .before .before .before) in search needs
 
 add-k : tie.Need-add-k Inv-loop μ-loop
-add-k c = let found = here c in search needs
+add-k c = let found = here (c .before .before .before .before) in search needs
 
 loop-less : tie.Need-loop-less Inv-loop μ-loop
-loop-less c = let found = here c in search needs
+loop-less c = let found = here (c .before .before .before .before) in search needs
 
 loop-again : tie.Need-loop-again Inv-loop μ-loop
 loop-again c =
-    let a = c .before .before .before .before .before .before .before .before .before .before .before .before .before .before .before .before .before .before .before .args in
-    let l = c .before .before .before .before .before .before .before .before .before .before .before .before .before .before .loop in
-    let found = here c in
-    let text = text-list (a .bytes .now) (l .offset) (l .k) (l .used) (l .text) _ (textOf (a .bytes .now)) _ (omega arith) (l .inv .8)
-    _ _ _ (found .found) (c .before .before .list-line .ensures .0) in
+    let entered = c .before .before .before .before .before .before .before .before .before .before .before .before .before .before in
+    let l = entered .loop in
+    let s = entered .before .before .before .before .before .args .bytes .now in
+    let found = here (c .before .before .before .before) in
+    let line = own-numbers (l .k) (found .tree) (found .size) (found .count) (c .before .before .list-line .ensures .0) in
+    let text = text-list lineOf s (textOf lineOf s) (l .offset) (l .k) (l .used) (l .text) _ _ (l .inv .8) found line in
     (search needs, search needs, search needs, search needs, search needs, search needs, search needs, search needs, text)
 
 enum-told : tie.Need-enum-told Inv-loop μ-loop
 enum-told c = search needs
 
-end-line-requires : tie.Need-end-line-requires Inv-loop μ-loop
-end-line-requires c κs = search needs
+put-end-requires : tie.Need-put-end-requires Inv-loop μ-loop
+put-end-requires c κs = search needs
 
 same-length : tie.Need-same-length Inv-loop μ-loop
 same-length c = search needs
@@ -108,22 +111,25 @@ same-length-3 : tie.Need-same-length-3 Inv-loop μ-loop
 same-length-3 c = search needs
 
 returns : tie.Need-returns Inv-loop μ-loop
+unfolding endLine
 returns c =
-    let a = c .before .before .before .before .before .before .before .before .before .before .before .before .before .before .before .before .before .before .args in
-    let l = c .before .before .before .before .before .before .before .before .before .before .before .before .before .loop in
-    let here = answered (a .bytes .now) (l .offset) _ _ _ _ _ _ (l .inv .1) (l .inv .2) (l .inv .4)
-    (c .before .before .before .before .before .before .before .before .before .before .next .ensures)
-    (c .before .before .before .before .enum-told .given .1) in (
-      text-end (a .bytes .now) (l .offset) (l .k) (l .used) (l .text) _ (textOf (a .bytes .now)) _ (omega arith) (l .inv .8)
-          here (c .before .before .end-line .ensures .0),
+    let entered = c .before .before .before .before .before .before .before .before .before .before .before .before .before in
+    let l = entered .loop in
+    let s = entered .before .before .before .before .before .args .bytes .now in
+    let short = end-short (l .offset) in
+    let added = pieces-added (endPieces (l .offset)) (c .before .before .put-end .ensures) (search needs) in
+    let at = end-found s (l .offset) (l .rows) (l .store) _ _ _ (l .inv .1) (l .inv .2) (l .inv .4)
+    (c .before .before .before .before .before .before .before .before .before .before .next .ensures) (c .before .before .before .before .enum-told .given .1) in
+    let size = added .size in (
+      text-end lineOf s (textOf lineOf s) (l .offset) (l .k) (l .used) (l .text) _ _ (l .inv .8) at added,
       (search needs, sym (length-take-le _ _ (search needs))),
     )
 
 enum-known-step-2 : tie.Need-enum-known-step-2 Inv-loop μ-loop
 enum-known-step-2 c = search needs
 
-stop-line-requires : tie.Need-stop-line-requires Inv-loop μ-loop
-stop-line-requires c κs = search needs
+put-stop-requires : tie.Need-put-stop-requires Inv-loop μ-loop
+put-stop-requires c κs = search needs
 
 same-length-4 : tie.Need-same-length-4 Inv-loop μ-loop
 same-length-4 c = search needs
@@ -135,14 +141,19 @@ same-length-6 : tie.Need-same-length-6 Inv-loop μ-loop
 same-length-6 c = search needs
 
 returns-2 : tie.Need-returns-2 Inv-loop μ-loop
+unfolding stopLine
 returns-2 c =
-    let a = c .before .before .before .before .before .before .before .before .before .before .before .before .before .before .before .before .before .before .before .args in
-    let l = c .before .before .before .before .before .before .before .before .before .before .before .before .before .before .loop in
-    let here = answered (a .bytes .now) (l .offset) _ _ _ _ _ _ (l .inv .1) (l .inv .2) (l .inv .4)
-    (c .before .before .before .before .before .before .before .before .before .before .before .next .ensures)
-    (c .before .before .before .before .before .step2 .given .1) in (
-      text-stop (a .bytes .now) (l .offset) (l .k) (l .used) (l .text) _ (textOf (a .bytes .now)) _ (omega arith) (l .inv .8)
-          _ here (c .before .before .stop-line .ensures .0),
+    let entered = c .before .before .before .before .before .before .before .before .before .before .before .before .before .before in
+    let l = entered .loop in
+    let s = entered .before .before .before .before .before .args .bytes .now in
+    let told = c .before .before .before .before .before .step2 .given in
+    let x = told .0 .0 in
+    let short = stop-short (refusalOf x) in
+    let added = pieces-added (stopPieces (refusalOf x)) (c .before .before .put-stop .ensures) (search needs) in
+    let at = stop-found s (l .offset) (l .rows) (l .store) _ _ _ (l .inv .1) (l .inv .2) (l .inv .4)
+    (c .before .before .before .before .before .before .before .before .before .before .before .next .ensures) x lineOf (l .inv .8 .fuel) (l .k) (told .1) in
+    let size = added .size in (
+      text-stop lineOf s (textOf lineOf s) (l .offset) (l .k) (l .used) (l .text) _ _ (l .inv .8) x at added,
       (search needs, sym (length-take-le _ _ (search needs))),
     )
 
@@ -162,13 +173,13 @@ stream-text-spec =
     loop-less
     loop-again
     enum-told
-    end-line-requires
+    put-end-requires
     same-length
     same-length-2
     same-length-3
     returns
     enum-known-step-2
-    stop-line-requires
+    put-stop-requires
     same-length-4
     same-length-5
     same-length-6

@@ -131,15 +131,19 @@ impl<'a> Reading<'a> {
 
 /// The bytes of the list that rows, 12 bytes each, and store bytes describe.
 pub fn write(rows: &[u8], store: &[u8]) -> Result<Vec<u8>, Error> {
+    writable(rows, store).map(|elements| image(&elements))
+}
+
+/// The list that rows and store describe, or the first of the errors 30, 27 and 28.
+pub(super) fn writable(rows: &[u8], store: &[u8]) -> Result<Vec<Element>, Error> {
     let Some((elements, depth)) = described(rows, store) else { return Err(Error::NotOneList) };
     if depth > DEPTH_LIMIT {
         return Err(Error::TooDeep);
     }
-    let bytes = image(&elements);
-    if bytes.len() > LIST_LIMIT {
+    if image(&elements).len() > LIST_LIMIT {
         return Err(Error::BeyondLimit);
     }
-    Ok(bytes)
+    Ok(elements)
 }
 
 /// The one list that rows and store describe, of any depth and size, and how deep it is.

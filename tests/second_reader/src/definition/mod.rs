@@ -1,7 +1,8 @@
-//! Packets, lists and the published list as the paper words them, item by item and with
-//! nothing done ahead: what the quicker forms of this library and the product are both
-//! compared with. The areas that a call is lent are no concern here.
+//! Packets, lists, their texts and the published list as the papers word them, item by
+//! item and with nothing done ahead: what the quicker forms of this library and the product
+//! are both compared with. The areas that a call is lent are no concern here.
 
 pub mod hub;
 pub mod list;
 pub mod packet;
+pub mod text;

@@ -8,6 +8,7 @@ pub mod packet;
 pub mod replay;
 pub mod stream;
 pub mod table;
+pub mod text;
 pub mod writers;
 
 use crate::random::Random;

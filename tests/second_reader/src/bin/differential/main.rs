@@ -1,5 +1,5 @@
-//! Compares the product with the second reader on seeded inputs, packets and lists also
-//! with their definitions: each answer, and every byte of every lent buffer.
+//! Compares the product with the second reader on seeded inputs, packets, lists and texts
+//! also with their definitions: each answer, and every byte of every lent buffer.
 //!
 //! Sections of archive calls are compiled in by the features of the same names; the
 //! programs' sections are always there.
@@ -9,7 +9,8 @@
     feature = "list",
     feature = "stream",
     feature = "hub",
-    feature = "writers"
+    feature = "writers",
+    feature = "text"
 ))]
 mod buffers;
 mod crash;
@@ -26,6 +27,8 @@ mod programs;
 mod report;
 #[cfg(feature = "stream")]
 mod stream;
+#[cfg(feature = "text")]
+mod text;
 #[cfg(feature = "writers")]
 mod writers;
 
@@ -40,17 +43,20 @@ use std::time::{Duration, Instant};
 fn sections() -> Vec<(Section, u64)> {
     vec![
         #[cfg(feature = "packet")]
-        (packet::SECTION, 300),
+        (packet::SECTION, 270),
         #[cfg(feature = "list")]
-        (list::SECTION, 300),
+        (list::SECTION, 270),
         #[cfg(feature = "stream")]
-        (stream::SECTION, 120),
+        (stream::SECTION, 100),
         #[cfg(feature = "hub")]
-        (hub::SECTION, 120),
+        (hub::SECTION, 110),
         #[cfg(feature = "writers")]
-        (writers::SECTION, 130),
+        (writers::SECTION, 105),
+        #[cfg(feature = "text")]
+        (text::SECTION, 100),
         (programs::RUN, 15),
         (programs::REPLAY, 15),
+        (programs::SHOW, 15),
     ]
 }
 

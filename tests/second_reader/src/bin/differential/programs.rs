@@ -1,16 +1,16 @@
-//! The run and replay programs against the second reader: what each prints for an input.
+//! The programs run, replay and show against the second reader: what each prints for an input.
 //! A case is one process.
 
 use crate::options;
 use crate::report::{count_answer, hex, Answers, Difference, Section, READER};
 use second_reader::generate::writers::bytes_of;
 use second_reader::generate::{
-    catalogue, list, replay as generate_replay, stream as generate_stream,
+    catalogue, damage, list, replay as generate_replay, stream as generate_stream, text,
 };
 use second_reader::list::{DEPTH_LIMIT, LIST_LIMIT};
 use second_reader::random::Random;
 use second_reader::replay::{replay_output, DETACH, PUBLISH, REPLAY_LIMIT};
-use second_reader::stream::{run_output, RUN_LIMIT};
+use second_reader::stream::{run_output, show_output, RUN_LIMIT};
 use second_reader::table::TABLE_BYTES;
 use std::io::Write;
 use std::path::PathBuf;
@@ -22,6 +22,13 @@ pub const RUN: Section = Section {
     answers: &[Answers { of: "run", numbers: &[0, 21, 22, 23, 24, 25, 26, 27, 28] }],
     enumerated: run_enumerated,
     random: run_case,
+};
+pub const SHOW: Section = Section {
+    name: "show",
+    progress: 500,
+    answers: &[Answers { of: "show", numbers: &[0, 21, 22, 23, 24, 25, 26, 27, 28, 31] }],
+    enumerated: show_enumerated,
+    random: show_case,
 };
 pub const REPLAY: Section = Section {
     name: "replay",
@@ -106,13 +113,41 @@ fn check_run(input: Vec<u8>) -> Result<u64, Difference> {
     check("run", input, &expected)
 }
 
+fn check_show(input: Vec<u8>) -> Result<u64, Difference> {
+    let expected = show_output(&input);
+    check("show", input, &expected)
+}
+
 fn run_case(random: &mut Random) -> Result<u64, Difference> {
-    let mut input = generate_stream::any(random);
-    if random.once_in(12) {
-        // As many lists as come near the most that is read.
-        while input.len() < RUN_LIMIT - 4096 {
-            let elements = list::legal(random);
-            input.extend(list::image(&elements));
+    let input = generate_stream::any(random);
+    check_run(at_times_full(random, input, list::legal))
+}
+
+/// Streams as run has them; lists with a text form in half of the cases.
+fn show_case(random: &mut Random) -> Result<u64, Difference> {
+    if random.once_in(2) {
+        let input = generate_stream::any(random);
+        return check_show(at_times_full(random, input, list::legal));
+    }
+    let mut input = Vec::new();
+    for _ in 0..random.below(9) {
+        input.extend(list::image(&text::telling(random)));
+    }
+    if random.once_in(4) {
+        damage(random, &mut input);
+    }
+    check_show(at_times_full(random, input, |random| text::small(random, LIST_LIMIT)))
+}
+
+/// The input, at times with as many lists behind it as come near the most that is read.
+fn at_times_full(
+    random: &mut Random,
+    mut input: Vec<u8>,
+    list_of: fn(&mut Random) -> Vec<list::Element>,
+) -> Vec<u8> {
+    if random.once_in(12) && input.len() < RUN_LIMIT - LIST_LIMIT {
+        while input.len() < RUN_LIMIT - LIST_LIMIT {
+            input.extend(list::image(&list_of(random)));
         }
         let missing = RUN_LIMIT + 2 - input.len();
         match random.below(3) {
@@ -121,20 +156,54 @@ fn run_case(random: &mut Random) -> Result<u64, Difference> {
             _ => {}
         }
     }
-    check_run(input)
+    input
 }
 
 fn run_enumerated() -> Result<u64, Difference> {
+    of_each(streams(), check_run)
+}
+
+/// The same streams; then lists that come to the longest text, lists with no text form
+/// among others, and the texts of a few hundred lists.
+fn show_enumerated() -> Result<u64, Difference> {
+    let mut inputs = streams();
+    for byte in [1, b'a', b'"', 200] {
+        inputs.push(list::image(&[list::Element::String(vec![byte; LIST_LIMIT - 13])]).repeat(8));
+        inputs.push(list::image(&[list::Element::Blob(vec![byte; LIST_LIMIT - 12])]).repeat(8));
+    }
+    let word = u32::from_le_bytes(*b"word");
+    for bits in [word, 0, 0x7f, word ^ 0xff, word | 0x80 << 24, 0x20_0061] {
+        inputs.push(bytes_of(&[265, 1, word, 265, 1, bits, 257, 1, bits]));
+    }
+    for high in [0x3ff0_0000, 0x7ff0_0000, 0xfff8_0000, 0x7fef_ffff] {
+        inputs.push(bytes_of(&[266, 1, 1, high, 266, 1, 0, high, 256, 0]));
+    }
+    let mut random = Random::new(0);
+    for _ in 0..300 {
+        inputs.push(list::image(&text::small(&mut random, 200)));
+    }
+    of_each(inputs, check_show)
+}
+
+fn of_each(
+    inputs: Vec<Vec<u8>>,
+    check: fn(Vec<u8>) -> Result<u64, Difference>,
+) -> Result<u64, Difference> {
+    inputs.into_iter().try_fold(0, |checks, input| Ok(checks + check(input)?))
+}
+
+/// Streams around the longest, and with each error.
+fn streams() -> Vec<Vec<u8>> {
     let empty_list = [0, 1, 0, 0, 0, 0, 0, 0];
-    let mut checks = check_run(Vec::new())?;
+    let mut inputs = vec![Vec::new()];
     for length in [RUN_LIMIT - 1, RUN_LIMIT, RUN_LIMIT + 1, 2 * RUN_LIMIT, 100_000] {
-        checks += check_run(vec![0; length])?;
+        inputs.push(vec![0; length]);
         let mut lists = empty_list.repeat(length / 8);
         lists.resize(length, 0);
-        checks += check_run(lists)?;
+        inputs.push(lists);
     }
     for length in 0..=16 {
-        checks += check_run(empty_list.repeat(2)[..length].to_vec())?;
+        inputs.push(empty_list.repeat(2)[..length].to_vec());
     }
     // One list at fault for each error, 21 to 28, behind an empty one.
     let faults: [&[u32]; 8] = [
@@ -147,10 +216,8 @@ fn run_enumerated() -> Result<u64, Difference> {
         &[256, 1].repeat(DEPTH_LIMIT + 1),
         &[268, 1, LIST_LIMIT as u32],
     ];
-    for fault in faults {
-        checks += check_run([&empty_list[..], &bytes_of(fault)].concat())?;
-    }
-    Ok(checks)
+    inputs.extend(faults.iter().map(|fault| [&empty_list[..], &bytes_of(fault)].concat()));
+    inputs
 }
 
 fn check_replay(input: Vec<u8>) -> Result<u64, Difference> {

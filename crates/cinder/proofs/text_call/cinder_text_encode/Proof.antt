@@ -1,0 +1,32 @@
+-- `cinder_text_encode` is `textWriteCall`, by the cases of text writing's answer.
+use borrow.Author.Needs.{needs}
+use Rattle.cinder.specs.TextCall.{textWriteCall}
+use Rattle.cinder.proofs.WriteAnswers.{rows-written}
+use Rattle.cinder.proofs.text_call.cinder_text_encode.Statement.{statement}
+use Rattle.cinder.proofs.text_call.cinder_text_encode.Tie as tie
+
+returns : tie.Need-returns
+unfolding textWriteCall
+returns c =
+    rows-written _ _ _ _ _ (c .before .before .e .given .1) (c .wrote .ensures)
+    (c .before .before .before .before .before .before .encode .ensures)
+
+returns-2 : tie.Need-returns-2
+unfolding textWriteCall
+returns-2 c =
+    rows-written _ _ _ _ _ (c .before .before .e2 .given .1) (c .not-written .ensures)
+    (c .before .before .before .before .before .before .encode .ensures)
+
+pub cinder-text-encode-spec : {M : Type 1} → statement M
+cinder-text-encode-spec =
+    tie.close
+    (tie.spec
+    (λ c κs. search needs)
+    (λ c. search needs)
+    (λ c κs. search needs)
+    (λ c. search needs)
+    (λ c κs. search needs)
+    (λ c. search needs)
+    returns
+    (λ c. search needs)
+    returns-2)

@@ -1,0 +1,1 @@
+// Numbers as digits: definitions and laws alone. The functions that write and read digits stand where they are used.

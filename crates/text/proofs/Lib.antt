@@ -1,0 +1,12 @@
+pub mod Fronts
+pub mod Ints
+pub mod Vocabs
+pub mod Strings
+pub mod Blobs
+pub mod Floats
+pub mod Values
+pub mod Matching
+pub mod Characters
+pub mod Readings
+pub mod Sizes
+pub mod Cases

@@ -1,0 +1,16 @@
+-- `text_check::token::gap_size` meets its contract.
+use borrow.Author.Tests.{eq-eqb, ne-eqb}
+use Rattle.text_check.proofs.token.gap_size.Statement.{statement}
+use Rattle.text_check.proofs.token.gap_size.Tie as tie
+
+returns : tie.Need-returns
+returns c = rw (c .if1 .taken)
+
+returns-2 : tie.Need-returns-2
+returns-2 c = rw (c .before .if1 .left, eq-eqb _ _ (c .if2 .taken))
+
+returns-3 : tie.Need-returns-3
+returns-3 c = rw (c .before .if1 .left, ne-eqb _ _ (c .if2 .left))
+
+pub gap-size-spec : {M : Type 1} → statement M
+gap-size-spec = tie.close (tie.spec returns returns-2 returns-3)

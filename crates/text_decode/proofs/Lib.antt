@@ -1,0 +1,12 @@
+pub mod Knowns
+pub mod Letters
+pub mod ByteDigits
+pub mod Copies
+pub mod Values
+pub mod Fillings
+pub mod Nexts
+pub mod Areas
+pub mod PutValues
+pub mod Stages
+pub mod Accepting
+pub mod Answers

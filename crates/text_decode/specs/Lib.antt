@@ -1,0 +1,4 @@
+pub mod Decode
+pub mod Fill
+pub mod Pieces
+pub mod Stage

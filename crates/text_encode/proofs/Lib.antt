@@ -1,0 +1,10 @@
+pub mod Writing
+pub mod Letters
+pub mod Pieces
+pub mod Vocabs
+pub mod Forms
+pub mod Turns
+pub mod Spelling
+pub mod Encoding
+pub mod Exactly
+pub mod RoundTrips

@@ -1,0 +1,15 @@
+-- `text_encode::digit::digit` meets its contract.
+use borrow.Author.Needs.{needs}
+use borrow.Author.Tests.{lt-ltb, le-ltb}
+use Rattle.text_encode.proofs.digit.digit.Statement.{statement}
+use Rattle.text_encode.proofs.digit.digit.Tie as tie
+
+returns : tie.Need-returns
+returns c = rw (lt-ltb (c .before .args .d) 10 (c .if1 .taken))
+
+returns-2 : tie.Need-returns-2
+returns-2 c = rw (le-ltb (c .before .args .d) 10 (c .if1 .left))
+
+pub digit-spec : {M : Type 1} → statement M
+digit-spec =
+    tie.close (tie.spec (λ c. search needs) (λ c. search needs) returns (λ c. search needs) (λ c. search needs) returns-2)

@@ -1,0 +1,19 @@
+-- `text_value::is_float` meets its contract: past the end stands 0.
+use mathlib.Core.Path.{_≡_}
+use native.Mathlib.Omega.{arith}
+use borrow.Author.Needs.{needs}
+use Prim.Native.Nat.{_+_}
+use lib.ListN.{getD, List·getD-eq-default}
+use Rattle.text_value.proofs.is_float.Statement.{statement}
+use Rattle.text_value.proofs.is_float.Tie as tie
+
+returns-2 : tie.Need-returns-2
+returns-2 c =
+    let a = c .before .args in
+    let past : getD (a .text .now) (a .at + 1) 0 ≡ 0 = List·getD-eq-default (a .text .now) 0 (omega arith) in
+    rw past
+
+pub is-float-spec : {M : Type 1} → statement M
+is-float-spec =
+    tie.close
+    (tie.spec (λ c. search needs) (λ c. search needs) (λ c. search needs) (λ c. search needs) returns-2)
