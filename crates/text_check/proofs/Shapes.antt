@@ -1,7 +1,7 @@
 -- A token as the tally needs it: what the code answers for each first character is the token's shape.
 use Prim.Native.Nat.{ℕ, suc, _+_, _-_, _^_, _≤_, _<_}
 use mathlib.Core.Path.{_≡_, refl, sym, ap, _∙_}
-use mathlib.Core.Bool.{Bool, true, false, cond}
+use mathlib.Core.Bool.{Bool, true, false, cond, _||_}
 use mathlib.Core.List.{List, [], _∷_}
 use native.Mathlib.Omega.{arith}
 use native.Mathlib.Numerals.{add-one}
@@ -243,6 +243,15 @@ module _ (s : List ℕ) (at : ℕ) (long : at < length s) where
     -- neither a closing bracket nor the space that must stand
     pub token-bare : (first : Bool) → (getD s at 0 ≡ 41 → ⊥) → gap ≡ gapSize first (getD s at 0) → gap ≡ 2 → wrong ≡ andRead (tokenAt first (drop at s)) shaped
     token-bare first q e h = ap (λ (t : Read Token). andRead t shaped) (missing first (eqb (getD s at 0) 32) e h ∙ sym (token-is first q))
+
+-- where an element may begin, the gap is that of the definition; else none is
+pub gap-known : (first : Bool) (c : ℕ) → (first || eqb c 32) ≡ true → (cond first 0 1 ≡ gapSize first c) × (_≡_ {A = ℕ} (cond first 0 1) 2 → ⊥)
+gap-known true c h = (refl, λ z. absurd (omega arith))
+gap-known false c h = (rw h, λ z. absurd (omega arith))
+
+pub gap-missing : (first : Bool) (c : ℕ) → (first || eqb c 32) ≡ false → 2 ≡ gapSize first c
+gap-missing true c h = absurd (let z : _≡_ {A = ℕ} 0 1 = cc in omega arith)
+gap-missing false c h = rw h
 
 -- nothing stands behind the last character
 pub token-past : (first : Bool) (s : List ℕ) (at : ℕ) → length s ≤ at → wrong ≡ andRead (tokenAt first (drop at s)) shaped

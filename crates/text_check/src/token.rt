@@ -12,10 +12,12 @@ use text_value::number_at;
 use text_value::vocab_at;
 ghost use Prim.Native.Nat.{_+_, _-_, _≤_, _^_};
 ghost use mathlib.Core.Path.{_≡_};
+ghost use mathlib.Core.Bool.{cond, _||_};
+ghost use lib.Dec.{eqb};
 ghost use lib.ListN.{drop, length};
 ghost use Rattle.digits.specs.Read.{andRead};
 ghost use Rattle.text.specs.Tokens.{elementAt, tokenAt};
-ghost use Rattle.text_value.specs.Answers.{wordOf, gapSize, Within};
+ghost use Rattle.text_value.specs.Answers.{wordOf, Within};
 ghost use Rattle.text_check.specs.Answers.{atMost, spanOf, shaped, tokenOf, countOf, opensOf, spanToken, vocabToken, numberToken, behindGap};
 
 pub enum TokenRead {
@@ -145,17 +147,21 @@ fn element_at(text: &[u8], at: usize) -> TokenRead
     }
 }
 
-// What a space takes before an element that is not the first, 2 where none stands.
-fn gap_size(c: u8, first: bool) -> usize
-    ensures { λ r. ⌜ r ≡ gapSize first c ⌝ }
+// May an element begin with this character, the space before it included? The first of a list has none.
+fn may_begin(c: u8, first: bool) -> bool
+    ensures { λ r. ⌜ r ≡ (first || eqb c 32) ⌝ }
+{
+    first | (c == 32)
+}
+
+// The characters that a space takes before an element. They do not depend on the text, so that the next character can be read ahead.
+fn gap_before(first: bool) -> usize
+    ensures { λ r. ⌜ r ≡ cond first 0 1 ⌝ }
 {
     if first {
         return 0;
     }
-    if c == 32 {
-        return 1;
-    }
-    2
+    1
 }
 
 // The same with `gap` characters before it; no element is a closing bracket.
@@ -190,9 +196,9 @@ pub fn token_at(text: &[u8], at: usize, first: bool) -> TokenRead
     if c == 41 {
         return TokenRead::Close;
     }
-    let gap = gap_size(c, first);
-    if gap == 2 {
+    if !may_begin(c, first) {
         return TokenRead::Wrong;
     }
+    let gap = gap_before(first);
     moved(element_at(text, at + gap), gap)
 }

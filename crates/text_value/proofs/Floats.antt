@@ -1,7 +1,7 @@
 -- Laws of signs, scales and a float's parts.
 use Prim.Native.Nat.{ℕ, zero, suc, _+_, _-_, _≤_, _<_}
 use mathlib.Core.Path.{_≡_, refl, sym, _∙_}
-use mathlib.Core.Bool.{Bool, true, false, cond, _&&_}
+use mathlib.Core.Bool.{Bool, true, false, _&&_}
 use mathlib.Core.List.{List}
 use mathlib.Core.Option.{Option, some}
 use mathlib.Core.Option as option
@@ -50,6 +50,14 @@ module _ (s : List ℕ) (at : ℕ) where
   here : getD (drop at s) 0 0 ≡ getD s at 0
   here = rw (getD-drop, add-zero)
 
+  pub int-minus : getD s at 0 ≡ 45 → andRead (decimalAt 2147483648 (drop (at + 1) s)) minusBits ≡ intAt (drop at s)
+  unfolding intAt
+  int-minus e = sym (rw (here, eq-eqb (getD s at 0) 45 e, drop-drop))
+
+  pub int-plain : (getD s at 0 ≡ 45 → ⊥) → decimalAt 2147483647 (drop at s) ≡ intAt (drop at s)
+  unfolding intAt
+  int-plain e = sym (rw (here, ne-eqb (getD s at 0) 45 e))
+
   pub scale-plus : getD s at 0 ≡ 43 → andRead (decimalAt 1023 (drop (at + 1) s)) plusScale ≡ scaleAt (drop at s)
   unfolding scaleAt
   scale-plus e = sym (rw (here, eq-eqb (getD s at 0) 43 e, drop-drop))
@@ -61,27 +69,6 @@ module _ (s : List ℕ) (at : ℕ) where
   pub scale-none : (getD s at 0 ≡ 43 → ⊥) → (getD s at 0 ≡ 45 → ⊥) → wrong ≡ scaleAt (drop at s)
   unfolding scaleAt
   scale-none n e = sym (rw (here, ne-eqb (getD s at 0) 43 n, ne-eqb (getD s at 0) 45 e))
-
--- an int behind its sign
-module _ (s : List ℕ) (at sign : ℕ) (is-sign : sign ≡ signSize (drop at s)) where
-  pub int-plain : sign ≡ 0 → decimalAt (2147483647 + sign) (drop (at + sign) s) ≡ intAt (drop at s)
-  unfolding intAt signSize
-  int-plain e = go (eqb (getD (drop at s) 0 0) 45) is-sign
-    where
-      go : (b : Bool) → sign ≡ cond b 1 0
-          → decimalAt (2147483647 + sign) (drop (at + sign) s) ≡ cond b (andRead (decimalAt 2147483648 (drop 1 (drop at s))) minusBits) (decimalAt 2147483647 (drop at s))
-      go true q = absurd (omega (arith, e, q))
-      go false q = rw (e, add-zero at)
-
-  pub int-minus : (sign ≡ 0 → ⊥) → andRead (decimalAt (2147483647 + sign) (drop (at + sign) s)) minusBits ≡ intAt (drop at s)
-  unfolding intAt signSize
-  int-minus e = go (eqb (getD (drop at s) 0 0) 45) is-sign
-    where
-      go : (b : Bool) → sign ≡ cond b 1 0
-          → andRead (decimalAt (2147483647 + sign) (drop (at + sign) s)) minusBits
-          ≡ cond b (andRead (decimalAt 2147483648 (drop 1 (drop at s))) minusBits) (decimalAt 2147483647 (drop at s))
-      go true q = rw (q, drop-drop)
-      go false q = absurd (e q)
 
 -- A FLOAT OF ITS PARTS
 pub float-is : (sign lead fraction low : ℕ) (r : WordRead) (bits count : ℕ) (o : Option ℕ) → r ≡ word.Is bits count → o ≡ exponentFrom lead fraction low bits

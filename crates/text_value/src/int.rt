@@ -1,7 +1,6 @@
 // Ints.
 use crate::WordRead;
 use crate::digit::decimal_at;
-use crate::sign_size;
 ghost use Prim.Native.Nat.{_-_, _^_};
 ghost use mathlib.Core.Path.{_≡_};
 ghost use lib.ListN.{drop, length};
@@ -33,10 +32,8 @@ fn minus_bits(read: WordRead) -> WordRead
 pub fn int_at(text: &[u8], at: usize) -> WordRead
     ensures { λ r. ⌜ (wordOf r ≡ intAt (drop at (now (text .entry)))) × Within at (length (now (text .entry))) (wordOf r) ⌝ }
 {
-    let sign = sign_size(text, at);
-    let read = decimal_at(text, at + sign, MOST + sign as u32);
-    if sign == 0 {
-        return read;
+    if wire::byte_at(text, at) == 45 {
+        return minus_bits(decimal_at(text, at + 1, MOST + 1));
     }
-    minus_bits(read)
+    decimal_at(text, at, MOST)
 }
