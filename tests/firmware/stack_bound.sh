@@ -1,7 +1,7 @@
 #!/bin/sh
 # The most stack that each C call of an archive can take, from its machine code: the
 # return address, what each function pushes and reserves, and what it uses below its
-# stack pointer, along the deepest chain of calls. A function that calls itself counts
+# stack pointer, in words of 8 bytes, along the deepest chain of calls. A function that calls itself counts
 # nine times: eight lists in each other, and the call that refuses a ninth. A call with more
 # numbers than registers, the place of a large answer counted, has 16 bytes of arguments on
 # the stack. For x86-64.
@@ -60,7 +60,7 @@ $2 == "sub" && $3 ~ /^\$0x[0-9a-f]+,%rsp$/ {
 }
 $2 == "and" && $3 ~ /,%rsp$/ { frame[now] += 64 }
 match($0, /-0x[0-9a-f]+\(%rsp/) {
-    size = hex(substr($0, RSTART + 3, RLENGTH - 8))
+    size = int((hex(substr($0, RSTART + 3, RLENGTH - 8)) + 7) / 8) * 8
     if (size > below_pointer[now]) below_pointer[now] = size
 }
 $2 == "call" && $3 ~ /^\*%/ { indirect[now] = 1 }

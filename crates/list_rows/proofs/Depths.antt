@@ -15,10 +15,9 @@ use Rattle.list.specs.Tree.{Value, Elements, int, vocab, float, str, blob, none
 use Rattle.list.specs.Rows.{valueStore, elementStore, valueRow, listRow, elementRows, elementCount, listRows}
 use Rattle.list.proofs.Codes.{code-low}
 use Rattle.list.proofs.RowBound.{value-row, element-rows}
-use Rattle.list_rows.specs.declared.depth.Walked.the-variants.{Past, Deep}
 use Rattle.list_rows.specs.Judge.{nested, depth}
 use Rattle.list_rows.specs.Row.{rowsIn, rowsFrom}
-use Rattle.list_rows.specs.Walk.{andWalk, walkIn, walk, isDeep, tooDeep}
+use Rattle.list_rows.specs.Walk.{Past, Deep, andWalk, walkIn, walk, isDeep, tooDeep}
 use Rattle.list_rows.proofs.Rows.{behind}
 
 row-code : (v : Value) (used : ℕ) (rest : List ℕ) → getD (valueRow used v ++ rest) 0 0 ≡ codeOf (kind v)

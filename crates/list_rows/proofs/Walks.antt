@@ -1,6 +1,6 @@
 -- Laws of the walk past rows: what one turn of its loop does.
 use Prim.Native.Nat.{ℕ, zero, suc, _+_, _-_, _*_, _≤_, _<_}
-use mathlib.Core.Path.{_≡_, refl, sym, _∙_}
+use mathlib.Core.Path.{_≡_, refl, sym, ap, _∙_}
 use mathlib.Core.Bool.{cond}
 use mathlib.Core.List.{List}
 use native.Mathlib.Omega.{arith}
@@ -10,10 +10,21 @@ use borrow.Author.Tests.{eq-eqb, ne-eqb, le-leb, lt-leb}
 use Rattle.list.specs.declared.Row.{Row}
 use Rattle.list.specs.Kind.{listCode}
 use Rattle.list.specs.RowBytes.{rowAt}
-use Rattle.list_rows.specs.declared.depth.Walked.{Walked}
-use Rattle.list_rows.specs.declared.depth.Walked.the-variants.{Past, Deep}
 use Rattle.list_rows.specs.Row.{rowsIn}
-use Rattle.list_rows.specs.Walk.{andWalk, walkIn, walk}
+use Rattle.list_rows.specs.Walk.{Walked, Past, Deep, behindOf, isDeep, andWalk, walkIn, walk}
+
+-- what the number of a walk says
+pub is-deep : (w : Walked) → behindOf w ≡ 0 → w ≡ Deep
+is-deep (Past i) h = absurd (omega arith)
+is-deep Deep h = refl
+
+pub is-past : (w : Walked) (n : ℕ) → n ≡ behindOf w → (n ≡ 0 → ⊥) → w ≡ Past (n - 1)
+is-past (Past i) n e h = let same : n - 1 ≡ i = omega arith in ap Past (sym same)
+is-past Deep n e h = absurd (h e)
+
+pub deep-test : (w : Walked) → eqb (behindOf w) 0 ≡ isDeep w
+deep-test (Past i) = ne-eqb (suc i) 0 (λ z. absurd (omega arith))
+deep-test Deep = refl
 
 pub walk-down : (depth : ℕ) (rows : List ℕ) (n i : ℕ) → (depth ≡ 0 → ⊥) → walk depth rows n i ≡ walkIn (walk (depth - 1) rows) rows n i
 unfolding walk

@@ -6,9 +6,17 @@ use lib.Dec.{eqb, leb}
 use Rattle.list.specs.Kind.{listCode}
 use Rattle.list.specs.Limits.{depthLimit, rowNumbers}
 use Rattle.list.specs.RowBytes.{rowAt}
-use Rattle.list_rows.specs.declared.depth.Walked.{Walked}
-use Rattle.list_rows.specs.declared.depth.Walked.the-variants.{Past, Deep}
 use Rattle.list_rows.specs.Row.{rowsIn}
+
+-- past the rows of some elements, or lists that stand too deep in one another
+pub data Walked : Type 0 where
+  Past : ℕ → Walked
+  Deep : Walked
+
+-- the same as one number, as the code answers it
+abbrev pub behindOf : Walked → ℕ
+behindOf (Past i) = suc i
+behindOf Deep = 0
 
 abbrev pub andWalk : Walked → (ℕ → Walked) → Walked
 andWalk (Past i) go = go i
