@@ -2,54 +2,9 @@
 # Runs the run program on inputs whose lines 01 gives, and compares what it prints. Exits with 1 where one differs.
 # Usage: tests/run_cases.sh [PROGRAM]    (default target/bin/run, which `rt check run` builds)
 set -eu
-run=${1:-target/bin/run}
-room=$(mktemp -d)
-trap 'rm -rf "$room"' EXIT
-failed=0
-
-# numbers as 32-bit words, low byte first
-words() {
-    for n in "$@"; do
-        printf "$(printf '\\%03o\\%03o\\%03o\\%03o' $((n & 255)) $((n >> 8 & 255)) $((n >> 16 & 255)) $((n >> 24 & 255)))"
-    done
-}
-
-# twice FILE TIMES: doubles a file that many times
-twice() {
-    for _ in $(seq "$2"); do
-        cat "$1" "$1" >"$room/double"
-        mv "$room/double" "$1"
-    done
-}
-
-# expect NAME: standard input has the lines that the program must print for $room/in
-expect() {
-    cat >"$room/want"
-    "$run" <"$room/in" >"$room/got"
-    if cmp -s "$room/want" "$room/got"; then
-        echo "run: $1: ok"
-    else
-        echo "run: $1: DIFFERS"
-        diff "$room/want" "$room/got" | head -n 10 || :
-        failed=1
-    fi
-}
-
-primes() {
-    words 257 8 2 3 5 7 11 13 17 19
-}
-
-# the two-list example; $1 is the byte at the end of its first string
-two_lists() {
-    words 256 2 257 3 91 92 93 260 4 5
-    printf "this\\$1"
-    words 3
-    printf 'is\000'
-    words 2
-    printf 'a\000'
-    words 10
-    printf 'good list\000'
-}
+name=run
+program=${1:-target/bin/run}
+. "$(dirname "$0")/program_cases.sh"
 
 : >"$room/in"
 expect 'no bytes' <<EOF

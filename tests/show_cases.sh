@@ -2,67 +2,23 @@
 # Runs the show program on inputs whose lines 01 and 02 give, and compares what it prints. Exits with 1 where one differs.
 # Usage: tests/show_cases.sh [PROGRAM]    (default target/bin/show, which `rt check show` builds)
 set -eu
-show=${1:-target/bin/show}
-room=$(mktemp -d)
-trap 'rm -rf "$room"' EXIT
-failed=0
-
-# numbers as 32-bit words, low byte first
-words() {
-    for n in "$@"; do
-        printf "$(printf '\\%03o\\%03o\\%03o\\%03o' $((n & 255)) $((n >> 8 & 255)) $((n >> 16 & 255)) $((n >> 24 & 255)))"
-    done
-}
-
-# twice FILE TIMES: doubles a file that many times
-twice() {
-    for _ in $(seq "$2"); do
-        cat "$1" "$1" >"$room/double"
-        mv "$room/double" "$1"
-    done
-}
-
-# expect NAME: standard input has the lines that the program must print for $room/in
-expect() {
-    cat >"$room/want"
-    "$show" <"$room/in" >"$room/got"
-    if cmp -s "$room/want" "$room/got"; then
-        echo "show: $1: ok"
-    else
-        echo "show: $1: DIFFERS"
-        diff "$room/want" "$room/got" | cut -c 1-120 | head -n 10 || :
-        failed=1
-    fi
-}
-
-primes() {
-    words 257 8 2 3 5 7 11 13 17 19
-}
-
-two_lists() {
-    words 256 2 257 3 91 92 93 260 4 5
-    printf 'this\000'
-    words 3
-    printf 'is\000'
-    words 2
-    printf 'a\000'
-    words 10
-    printf 'good list\000'
-}
+name=show
+program=${1:-target/bin/show}
+. "$(dirname "$0")/program_cases.sh"
 
 : >"$room/in"
 expect 'no bytes' <<'EOF'
 end 0
 EOF
 
-{ primes; two_lists; } >"$room/in"
+{ primes; two_lists 000; } >"$room/in"
 expect 'the examples of source document 002' <<'EOF'
 2 3 5 7 11 13 17 19
 (91 92 93) ("this" "is" "a" "good list")
 end 112
 EOF
 
-{ primes; two_lists; printf '\000\000'; } >"$room/in"
+{ primes; two_lists 000; printf '\000\000'; } >"$room/in"
 expect 'the examples and 00 00' <<'EOF'
 2 3 5 7 11 13 17 19
 (91 92 93) ("this" "is" "a" "good list")

@@ -1,159 +1,87 @@
--- The walk over a list's rows finds its depth.
-use Prim.Native.Nat.{ℕ, zero, suc, _+_, _-_, _*_, _≤_, _<_}
+-- The rows of a list are too deep where the list is.
+use Prim.Native.Nat.{ℕ, suc, _+_, _-_, _<_, max}
 use mathlib.Core.Path.{_≡_, refl, sym, ap, _∙_}
-use mathlib.Core.Bool.{Bool, true, false}
-use mathlib.Core.List.{List, [], _++_, append-assoc, append-nil}
+use mathlib.Core.Bool.{Bool, true, false, cond}
+use mathlib.Core.List.{List, [], _∷_, _++_, append-assoc, append-nil}
 use native.Mathlib.Omega.{arith}
 use native.Mathlib.Nat.{add-zero, zero-add}
 use lib.Dec.{leb, ltb}
-use lib.ListN.{length, getD, drop, length-append, length-drop}
-use lib.Seq.{getD-drop}
-use borrow.Author.Tests.{ne-eqb, le-ltb, lt-ltb, lt-leb, leb-true, leb-false}
-use Rattle.list.specs.Kind.{codeOf, listCode}
+use lib.ListN.{length}
+use borrow.Author.Tests.{le-ltb, lt-ltb, ltb-true, ltb-false, leb-true, leb-false}
+use Rattle.list.specs.Kind.{listCode}
 use Rattle.list.specs.Limits.{depthLimit}
-use Rattle.list.specs.Tree.{Value, Elements, int, vocab, float, str, blob, none, value, list, kind, count}
-use Rattle.list.specs.Rows.{valueStore, elementStore, valueRow, listRow, elementRows, elementCount, listRows}
-use Rattle.list.proofs.Codes.{code-low}
-use Rattle.list.proofs.RowBound.{value-row, element-rows}
+use Rattle.list.specs.Tree.{Value, Elements, int, vocab, float, str, blob, none, value, list, count}
+use Rattle.list.specs.Rows.{valueStore, elementStore, valueRow, listRow, elementRows, listRows}
 use Rattle.list_rows.specs.Judge.{nested, depth}
-use Rattle.list_rows.specs.Row.{rowsIn, rowsFrom}
-use Rattle.list_rows.specs.Walk.{Past, Deep, andWalk, walkIn, walk, isDeep, tooDeep}
-use Rattle.list_rows.proofs.Rows.{behind}
+use Rattle.list_rows.specs.Nesting.{deepFrom, tooDeep}
+use Rattle.list_rows.proofs.Deepening.{deep-close, deep-value, deep-deeper, deep-list}
 
-row-code : (v : Value) (used : ℕ) (rest : List ℕ) → getD (valueRow used v ++ rest) 0 0 ≡ codeOf (kind v)
-row-code (int n) used rest = refl
-row-code (vocab n) used rest = refl
-row-code (float low high) used rest = refl
-row-code (str bs) used rest = refl
-row-code (blob bs) used rest = refl
+-- a value's row is no list's
+past-value : (v : Value) (used : ℕ) (rest outer : List ℕ) (left : ℕ) → 0 < left → deepFrom (valueRow used v ++ rest) outer left ≡ deepFrom rest outer (left - 1)
+past-value (int n) used rest outer left h = deep-value _ _ _ rest outer left h (λ e. omega arith)
+past-value (vocab n) used rest outer left h = deep-value _ _ _ rest outer left h (λ e. omega arith)
+past-value (float low high) used rest outer left h = deep-value _ _ _ rest outer left h (λ e. omega arith)
+past-value (str bs) used rest outer left h = deep-value _ _ _ rest outer left h (λ e. omega arith)
+past-value (blob bs) used rest outer left h = deep-value _ _ _ rest outer left h (λ e. omega arith)
 
--- a number of what stands from a place on
-pub number-at : (s : List ℕ) (at : ℕ) (xs : List ℕ) → drop at s ≡ xs → (i : ℕ) → getD s (at + i) 0 ≡ getD xs i 0
-number-at s at xs h i = sym (getD-drop at s i 0) ∙ ap (λ (l : List ℕ). getD l i 0) h
-
--- row i, where its numbers stand in front of others
-module _ (rows : List ℕ) where
-  step-value : (d n i used : ℕ) (v : Value) (rest : List ℕ) → rowsFrom rows i ≡ valueRow used v ++ rest → walk (suc d) rows (suc n) i ≡ walk (suc d) rows n (i + 1)
-  unfolding walk walkIn
-  step-value d n i used v rest h =
-      let l : i < rowsIn rows = omega (arith, value-row used v, simp (length-drop, length-append) at (ap length h)) in
-      let k : getD rows (3 * i) 0 ≡ codeOf (kind v) = rw add-zero at (number-at rows (3 * i) (valueRow used v ++ rest) h 0) ∙ row-code v used rest in
-      rw (lt-leb (rowsIn rows) i l, ne-eqb (getD rows (3 * i) 0) listCode (λ e. omega (arith, code-low (kind v) .1)))
-
-  step-list : (d n i : ℕ) (es : Elements) (rest : List ℕ) → rowsFrom rows i ≡ listRow es ++ rest
-      → walk (suc d) rows (suc n) i ≡ andWalk (walk d rows (count es) (i + 1)) (λ j. walk (suc d) rows n j)
-  unfolding walk walkIn
-  step-list d n i es rest h =
-      let l : i < rowsIn rows = omega (arith, simp (length-drop, length-append) at (ap length h)) in
-      let k : getD rows (3 * i) 0 ≡ listCode = rw add-zero at (number-at rows (3 * i) (listRow es ++ rest) h 0) in
-      let c : getD rows (3 * i + 1) 0 ≡ count es = number-at rows (3 * i) (listRow es ++ rest) h 1 in
-      rw (lt-leb (rowsIn rows) i l, k, c)
-
-  walk-none : (d i : ℕ) → walk (suc d) rows 0 i ≡ Past i
-  unfolding walk walkIn
-  walk-none d i = refl
-
-  walk-zero : (n i : ℕ) → walk 0 rows n i ≡ Deep
-  unfolding walk
-  walk-zero n i = refl
-
-  -- the rows behind some numbers that are n rows
-  past-rows : (i n : ℕ) (xs rest : List ℕ) → 3 * n ≡ length xs → rowsFrom rows i ≡ xs ++ rest → rowsFrom rows (i + n) ≡ rest
-  past-rows i n xs rest size h =
-      let e : 3 * (i + n) ≡ 3 * i + length xs = omega arith in
-      rw e (behind rows (3 * i) xs rest h)
-
-  -- the rows behind a value, and behind a list's own row and its elements
-  pub past-row : (v : Value) (es : Elements) (used i : ℕ) (rest : List ℕ) → rowsFrom rows i ≡ elementRows used (value v es) ++ rest
-      → (rowsFrom rows i ≡ valueRow used v ++ (elementRows (used + length (valueStore v)) es ++ rest))
-      × (rowsFrom rows (i + 1) ≡ elementRows (used + length (valueStore v)) es ++ rest)
-  past-row v es used i rest h =
-      let u : ℕ = used + length (valueStore v) in
-      let h₁ : rowsFrom rows i ≡ valueRow used v ++ (elementRows u es ++ rest) = h ∙ append-assoc (valueRow used v) (elementRows u es) rest in
-      (h₁, past-rows i 1 (valueRow used v) _ (sym (value-row used v)) h₁)
-
-  pub past-in : (i : ℕ) (a es : Elements) (used : ℕ) (rest : List ℕ) → rowsFrom rows i ≡ elementRows used (list a es) ++ rest
-      → (rowsFrom rows i ≡ listRow a ++ (elementRows used a ++ (elementRows (used + length (elementStore a)) es ++ rest)))
-      × (rowsFrom rows (i + 1) ≡ elementRows used a ++ (elementRows (used + length (elementStore a)) es ++ rest))
-      × (rowsFrom rows (i + 1 + elementCount a) ≡ elementRows (used + length (elementStore a)) es ++ rest)
-  past-in i a es used rest h =
-      let y : List ℕ = elementRows (used + length (elementStore a)) es in
-      let h₁ : rowsFrom rows i ≡ listRow a ++ (elementRows used a ++ (y ++ rest)) = h ∙ ap (λ (z : List ℕ). listRow a ++ z) (append-assoc (elementRows used a) y rest) in
-      let h₂ : rowsFrom rows (i + 1) ≡ elementRows used a ++ (y ++ rest) = past-rows i 1 (listRow a) _ refl h₁ in
-      (h₁, h₂, past-rows (i + 1) (elementCount a) (elementRows used a) _ (element-rows used a) h₂)
-
-  -- elements that are not too deep are passed
-  walk-shallow : (es : Elements) (d n i used : ℕ) (rest : List ℕ) → nested es ≤ d → rowsFrom rows i ≡ elementRows used es ++ rest
-      → walk (suc d) rows (count es + n) i ≡ walk (suc d) rows n (i + elementCount es)
-  walk-shallow none d n i used rest l h = rw (zero-add, add-zero)
-  walk-shallow (value v es) d n i used rest l h =
-      let m : suc (count es) + n ≡ suc (count es + n) = omega arith in
-      let e : i + (1 + elementCount es) ≡ i + 1 + elementCount es = omega arith in
-      let p = past-row v es used i rest h in
-      rw (m, e) (step-value d (count es + n) i used v _ (p .0) ∙ walk-shallow es d n (i + 1) (used + length (valueStore v)) rest l (p .1))
-  walk-shallow (list a es) zero n i used rest l h = absurd (omega arith)
-  walk-shallow (list a es) (suc d) n i used rest l h =
-      let m : suc (count es) + n ≡ suc (count es + n) = omega arith in
-      let e : i + (1 + elementCount a + elementCount es) ≡ i + 1 + elementCount a + elementCount es = omega arith in
-      let p = past-in i a es used rest h in
-      let j : ℕ = i + 1 + elementCount a in
-      let q : walk (suc d) rows (count a) (i + 1) ≡ Past j =
-      ap (λ (z : ℕ). walk (suc d) rows z (i + 1)) (sym (add-zero (count a))) ∙ walk-shallow a d 0 (i + 1) used _ (omega arith) (p .1) ∙ walk-none d j in
-      rw (m, e) (step-list (suc d) (count es + n) i a _ (p .0) ∙ rw q (walk-shallow es (suc d) n j (used + length (elementStore a)) rest (omega arith) (p .2)))
-
-  -- elements that are too deep are found
-  walk-deep : (es : Elements) (d n i used : ℕ) (rest : List ℕ) → d < nested es → rowsFrom rows i ≡ elementRows used es ++ rest
-      → walk (suc d) rows (count es + n) i ≡ Deep
-  walk-deep none d n i used rest l h = absurd (omega arith)
-  walk-deep (value v es) d n i used rest l h =
-      let m : suc (count es) + n ≡ suc (count es + n) = omega arith in
-      let p = past-row v es used i rest h in
-      rw m (step-value d (count es + n) i used v _ (p .0) ∙ walk-deep es d n (i + 1) (used + length (valueStore v)) rest l (p .1))
-  walk-deep (list a es) zero n i used rest l h =
-      let m : suc (count es) + n ≡ suc (count es + n) = omega arith in
-      let p = past-in i a es used rest h in
-      rw m (step-list 0 (count es + n) i a _ (p .0) ∙ rw (walk-zero (count a) (i + 1)))
-  walk-deep (list a es) (suc d) n i used rest l h =
-      let p = past-in i a es used rest h in
-      go p (leb (nested a) d) refl (λ g. walk-deep a d 0 (i + 1) used _ g (p .1))
-      (λ g. walk-deep es (suc d) n (i + 1 + elementCount a) (used + length (elementStore a)) rest g (p .2))
-    where
-      m : suc (count es) + n ≡ suc (count es + n)
-      m = omega arith
-
-      go : (rowsFrom rows i ≡ listRow a ++ (elementRows used a ++ (elementRows (used + length (elementStore a)) es ++ rest)))
-          × (rowsFrom rows (i + 1) ≡ elementRows used a ++ (elementRows (used + length (elementStore a)) es ++ rest))
-          × (rowsFrom rows (i + 1 + elementCount a) ≡ elementRows (used + length (elementStore a)) es ++ rest)
-          → (b : Bool) → leb (nested a) d ≡ b → (d < nested a → walk (suc d) rows (count a + 0) (i + 1) ≡ Deep)
-          → (suc d < nested es → walk (suc (suc d)) rows (count es + n) (i + 1 + elementCount a) ≡ Deep)
-          → walk (suc (suc d)) rows (suc (count es) + n) i ≡ Deep
-      go p false e f g =
-          let q : walk (suc d) rows (count a) (i + 1) ≡ Deep = ap (λ (z : ℕ). walk (suc d) rows z (i + 1)) (sym (add-zero (count a))) ∙ f (leb-false _ _ e) in
-          rw m (step-list (suc d) (count es + n) i a _ (p .0) ∙ rw q)
-      go p true e f g =
-          let j : ℕ = i + 1 + elementCount a in
-          let q : walk (suc d) rows (count a) (i + 1) ≡ Past j =
-          ap (λ (z : ℕ). walk (suc d) rows z (i + 1)) (sym (add-zero (count a))) ∙ walk-shallow a d 0 (i + 1) used _ (leb-true _ _ e) (p .1) ∙ walk-none d j in
-          rw m (step-list (suc d) (count es + n) i a _ (p .0) ∙ rw q (g (omega (arith, leb-true (nested a) d e))))
-
--- rows are too deep where the list is
-pub deep-is : (es : Elements) → tooDeep (listRows es) ≡ ltb depthLimit (depth es)
-unfolding tooDeep
-deep-is es = go (leb (nested es) (depthLimit - 1)) refl
+-- one of two is above the limit where the greater is
+either : (limit m a b : ℕ) (x : Bool) → cond (ltb limit (suc m + a)) true (cond (ltb limit (m + b)) true x) ≡ cond (ltb limit (m + max (suc a) b)) true x
+either limit m a b x = go (ltb limit (suc m + a)) refl (ltb limit (m + b)) refl
   where
-    w : List ℕ
-    w = listRows es
+    go : (p : Bool) → ltb limit (suc m + a) ≡ p → (q : Bool) → ltb limit (m + b) ≡ q → cond p true (cond q true x) ≡ cond (ltb limit (m + max (suc a) b)) true x
+    go true e q f = rw (lt-ltb limit (m + max (suc a) b) (omega (arith, ltb-true limit (suc m + a) e)))
+    go false e true f = rw (lt-ltb limit (m + max (suc a) b) (omega (arith, ltb-true limit (m + b) f)))
+    go false e false f = rw (le-ltb limit (m + max (suc a) b) (omega (arith, ltb-false limit (suc m + a) e, ltb-false limit (m + b) f)))
 
-    h : rowsFrom w 1 ≡ elementRows 0 es ++ []
-    h = sym (append-nil (elementRows 0 es))
+-- the elements of a list that is open inside those of `outer` are passed where none of their lists is too deep
+deep-elements : (es : Elements) (used : ℕ) (rest outer : List ℕ) (left : ℕ) → length outer < depthLimit
+    → deepFrom (elementRows used es ++ rest) outer (count es + left) ≡ cond (ltb depthLimit (suc (length outer) + nested es)) true (deepFrom rest outer left)
+deep-elements none used rest outer left h = rw (zero-add left, le-ltb depthLimit (suc (length outer) + 0) (omega arith))
+deep-elements (value v es) used rest outer left h =
+    let u : ℕ = used + length (valueStore v) in
+    let e : suc (count es) + left - 1 ≡ count es + left = omega arith in
+    ap (λ (l : List ℕ). deepFrom l outer (suc (count es) + left)) (append-assoc (valueRow used v) (elementRows u es) rest)
+    ∙ past-value v used (elementRows u es ++ rest) outer (suc (count es) + left) (omega arith) ∙ rw e (deep-elements es u rest outer left h)
+deep-elements (list a es) used rest outer left h =
+    go (leb depthLimit (suc (length outer))) refl (λ g. deep-elements a used (elementRows u es ++ rest) ((count es + left) ∷ outer) 0 g) (deep-elements es u rest outer left h)
+  where
+    u : ℕ
+    u = used + length (elementStore a)
 
-    c : count es ≡ count es + 0
-    c = sym (add-zero (count es))
+    inner : List ℕ
+    inner = elementRows used a ++ (elementRows u es ++ rest)
 
-    go : (b : Bool) → leb (nested es) (depthLimit - 1) ≡ b → isDeep (walk depthLimit w (count es) 1) ≡ ltb depthLimit (suc (nested es))
-    go true e =
-        ap (λ (z : ℕ). isDeep (walk depthLimit w z 1)) c ∙ ap isDeep (walk-shallow w es (depthLimit - 1) 0 1 0 [] (leb-true _ _ e) h ∙ walk-none w (depthLimit - 1) _)
-        ∙ sym (le-ltb depthLimit (suc (nested es)) (omega (arith, leb-true (nested es) (depthLimit - 1) e)))
-    go false e =
-        ap (λ (z : ℕ). isDeep (walk depthLimit w z 1)) c ∙ ap isDeep (walk-deep w es (depthLimit - 1) 0 1 0 [] (leb-false _ _ e) h)
-        ∙ sym (lt-ltb depthLimit (suc (nested es)) (omega (arith, leb-false (nested es) (depthLimit - 1) e)))
+    more : ℕ
+    more = suc (count es) + left
+
+    is-more : more - 1 ≡ count es + left
+    is-more = omega arith
+
+    rows-are : elementRows used (list a es) ++ rest ≡ listRow a ++ inner
+    rows-are = ap (λ (l : List ℕ). listRow a ++ l) (append-assoc (elementRows used a) (elementRows u es) rest)
+
+    go : (b : Bool) → leb depthLimit (suc (length outer)) ≡ b
+        → (suc (length outer) < depthLimit → deepFrom inner ((count es + left) ∷ outer) (count a + 0)
+        ≡ cond (ltb depthLimit (suc (suc (length outer)) + nested a)) true (deepFrom (elementRows u es ++ rest) ((count es + left) ∷ outer) 0))
+        → deepFrom (elementRows u es ++ rest) outer (count es + left) ≡ cond (ltb depthLimit (suc (length outer) + nested es)) true (deepFrom rest outer left)
+        → deepFrom (elementRows used (list a es) ++ rest) outer more ≡ cond (ltb depthLimit (suc (length outer) + nested (list a es))) true (deepFrom rest outer left)
+    go true e f g =
+        let d = leb-true depthLimit (suc (length outer)) e in
+        rw (rows-are, deep-deeper listCode (count a) 0 inner outer more (omega arith) refl d, lt-ltb depthLimit (suc (length outer) + nested (list a es)) (omega arith))
+    go false e f g =
+        let d = leb-false depthLimit (suc (length outer)) e in
+        let opened = deep-list listCode (count a) 0 inner outer more (omega arith) refl d in
+        rw (rows-are, opened, is-more) (
+        ap (deepFrom inner ((count es + left) ∷ outer)) (sym (add-zero (count a))) ∙ f d
+        ∙ rw (deep-close (elementRows u es ++ rest) (count es + left) outer, g) (either depthLimit (suc (length outer)) (nested a) (nested es) (deepFrom rest outer left)))
+
+pub deep-is : (es : Elements) → tooDeep (listRows es) ≡ ltb depthLimit (depth es)
+unfolding tooDeep deepFrom
+deep-is es =
+    let d : 1 + nested es ≡ depth es = omega arith in
+    ap (λ (l : List ℕ). deepFrom l [] (count es)) (sym (append-nil (elementRows 0 es))) ∙ ap (deepFrom (elementRows 0 es ++ []) []) (sym (add-zero (count es)))
+    ∙ deep-elements es 0 [] [] 0 (omega arith) ∙ go (ltb depthLimit (1 + nested es)) ∙ ap (ltb depthLimit) d
+  where
+    go : (b : Bool) → cond b true (deepFrom [] [] 0) ≡ b
+    go true = refl
+    go false = refl

@@ -17,7 +17,7 @@ use Rattle.list.specs.RowBytes.{unpacked}
 use Rattle.list_rows.specs.Described.{described, wholeRows, listIn}
 use Rattle.list_rows.specs.Judge.{depth, Verdict, accepted, refused, fitting, judged, toWrite, sized, judgingOf}
 use Rattle.list_rows.specs.Shape.{listShape}
-use Rattle.list_rows.specs.Walk.{tooDeep}
+use Rattle.list_rows.specs.Nesting.{tooDeep}
 use Rattle.list_rows.specs.Emit.{emit, sizeFrom, capped, storedFrom}
 use Rattle.list_rows.proofs.Rows.{clash, both}
 use Rattle.list_rows.proofs.Shapes.{shape-stored}

@@ -1,6 +1,7 @@
 pub mod Rows
 pub mod Shapes
-pub mod Walks
+pub mod Nestings
+pub mod Deepening
 pub mod Sizes
 pub mod Accepted
 pub mod Described

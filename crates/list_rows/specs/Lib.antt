@@ -2,5 +2,5 @@ pub mod Described
 pub mod Judge
 pub mod Row
 pub mod Shape
-pub mod Walk
+pub mod Nesting
 pub mod Emit

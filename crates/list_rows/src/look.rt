@@ -3,7 +3,6 @@
 use super::row::row_count;
 use super::row::wide;
 use list::LIST_CODE;
-use list::ROW_NUMBERS;
 use list::Row;
 ghost use mathlib.Core.Path.{_≡_};
 ghost use Rattle.list.specs.RowBytes.{unpacked};
@@ -22,7 +21,8 @@ fn common_in(rows: &[u8], first: usize, n: usize) -> u32
         if count <= i {
             return seen;
         }
-        seen = list::common_code(seen, list::number_at(rows, ROW_NUMBERS * i));
+        let row = list::row_at(rows, i);
+        seen = list::common_code(seen, row.code);
         i += 1;
         left -= 1;
     }

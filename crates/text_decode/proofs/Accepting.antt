@@ -64,7 +64,6 @@ told text = listOf (toRead text)
 pub record Accepted (text : List ℕ) (es : Elements) : Type 0 where
   pub is : toRead text ≡ accepted es
   pub read : reading text ≡ some es
-  pub deep : depth es ≤ depthLimit
   pub short : length (listBytes es) ≤ listLimit
 
 pub accepted-text : (text : List ℕ) → errorOf (toRead text) ≡ 0 → Accepted text (told text)
@@ -77,7 +76,7 @@ accepted-text text = go (reading text) refl
         let w = fits-both listLimit es es f in
         let is : toRead text ≡ accepted es = ap judged e ∙ f in
         let t : told text ≡ es = ap listOf is in
-        rw t (record { is = is; read = e; deep = w .1; short = w .2 })
+        rw t (record { is = is; read = e; short = w .2 })
 
 -- its tokens are those of the text
 read-tokens : (text : List ℕ) (es : Elements) → reading text ≡ some es → tokensAt true 0 text ≡ some (tokensOf es)

@@ -8,10 +8,10 @@ use native.Mathlib.Numerals.{add-one}
 use native.Mathlib.Nat.{add-zero, zero-add}
 use lib.Dec.{eqb}
 use lib.ListN.{length, getD, drop, set, drop-of-length-le, length-drop, length-set}
-use lib.Seq.{sets, getD-drop, drop-drop}
-use borrow.Author.Tests.{eq-eqb, ne-eqb, eqb-true}
+use lib.Seq.{sets, drop-drop}
+use borrow.Author.Tests.{eq-eqb, ne-eqb}
 use Rattle.digits.specs.Read.{Read, got, wrong, andRead}
-use Rattle.digits.specs.Decimal.{isDecimal, decimalAt}
+use Rattle.digits.specs.Decimal.{decimalAt}
 use Rattle.digits.proofs.Judging.{judged-got}
 use Rattle.text.specs.Text.{charText}
 use Rattle.text.specs.Read.{charAt, charsAt, spacedByte, byteAt, bytesAt}
@@ -19,7 +19,7 @@ use Rattle.text.proofs.Fronts.{Front}
 use Rattle.text.proofs.Strings.{chars-skip, char-some, char-sound}
 use Rattle.text.proofs.Blobs.{bytes-skip}
 use Rattle.text_value.specs.Answers.{Within, AtMost}
-use Rattle.text_value.proofs.Decimals.{decimal-none, inside-some}
+use Rattle.text_value.proofs.Decimals.{first-char}
 use Rattle.text_value.proofs.Bounds.{decimal-bounds}
 use Rattle.list_decode.proofs.Writing.{Left, left-all}
 use Rattle.text_decode.specs.declared.known.Known.{Known}
@@ -91,7 +91,7 @@ pub chars-inside : (text : List ℕ) (pos : ℕ) → isGot (charsAt 0 (drop pos 
 unfolding charsAt
 chars-inside text pos h = lt-of pos (length text) (λ l. let e = rw (drop-of-length-le text l) at h in let z : _≡_ {A = ℕ} 0 1 = cc in omega arith)
 
-pub bytes-inside : (first : Bool) (text : List ℕ) (pos : ℕ) → isGot (bytesAt first 0 (drop pos text)) ≡ true → pos < length text
+bytes-inside : (first : Bool) (text : List ℕ) (pos : ℕ) → isGot (bytesAt first 0 (drop pos text)) ≡ true → pos < length text
 unfolding bytesAt
 bytes-inside first text pos h = lt-of pos (length text) (λ l. let e = rw (drop-of-length-le text l) at h in let z : _≡_ {A = ℕ} 0 1 = cc in omega arith)
 
@@ -147,13 +147,8 @@ module _ {all : Read (List ℕ)} {at used : ℕ} {kept : List ℕ} {now : Read (
         holds = sym (x .left .same ∙ ap (sets store end) g);
       }
 
--- characters and a text
-front : (text : List ℕ) (pos : ℕ) → getD (drop pos text) 0 0 ≡ getD text pos 0
-front text pos = rw (getD-drop, add-zero)
-
 -- A CHARACTER OF A STRING and what is behind it
 pub record StringTurn (text : List ℕ) (pos : ℕ) : Type 0 where
-  pub inside : pos < length text
   pub b : ℕ
   pub size : ℕ
   pub there : charAt (drop pos text) ≡ got b size
@@ -165,14 +160,12 @@ pub record StringTurn (text : List ℕ) (pos : ℕ) : Type 0 where
 pub string-turn : (text : List ℕ) (pos : ℕ) → (getD text pos 0 ≡ 34 → ⊥) → isGot (charsAt 0 (drop pos text)) ≡ true → StringTurn text pos
 string-turn text pos q h =
     let s : List ℕ = drop pos text in
-    let i : pos < length text = chars-inside text pos h in
-    let n : getD s 0 0 ≡ 34 → ⊥ = λ e. q (sym (front text pos) ∙ e) in
+    let n : getD s 0 0 ≡ 34 → ⊥ = λ e. q (sym (first-char text pos) ∙ e) in
     let g : Got (charAt s) = got-of (charAt s) (chars-first s n h) in
     let w = judged-got (λ b n. (b < 256) × (b ≡ 0 → ⊥) × Front s (charText b) n) (charAt s) (g .is) (g .count) (char-sound s) (g .same) in
     let k : 1 ≤ g .count = omega (arith, w .2 .1, char-some (g .is)) in
     let t = chars-turn s (g .is) (g .count) n k (g .same) in
     record {
-      inside = i;
       b = g .is;
       size = g .count;
       there = g .same;
@@ -188,13 +181,12 @@ pub string-next : {all : Read (List ℕ)} {at used : ℕ} {kept text : List ℕ}
 string-next x t e f = rw (e, f) (copying-turn x (t .b) (t .size) _ (t .turn) _ refl)
 
 pub string-end : (text : List ℕ) (pos : ℕ) → getD text pos 0 ≡ 34 → charsAt 0 (drop pos text) ≡ got [] 1
-string-end text pos e = chars-end (drop pos text) (front text pos ∙ e)
+string-end text pos e = chars-end (drop pos text) (first-char text pos ∙ e)
 
--- A BYTE OF A BLOB, behind its space where it has one, and what is behind it
+-- A BYTE OF A BLOB, behind its space unless it is the first, and what is behind it
 pub record BlobTurn (first : Bool) (text : List ℕ) (pos : ℕ) : Type 0 where
-  pub inside : pos < length text
   pub gap : ℕ
-  pub from : cond (eqb (getD text pos 0) 32) (pos + 1) pos ≡ pos + gap
+  pub from : cond first pos (pos + 1) ≡ pos + gap
   pub b : ℕ
   pub k : ℕ
   pub there : decimalAt 255 (drop (pos + gap) text) ≡ got b k
@@ -206,35 +198,24 @@ pub record BlobTurn (first : Bool) (text : List ℕ) (pos : ℕ) : Type 0 where
 -- what the byte's own reading says
 record ByteRead (first : Bool) (text : List ℕ) (pos : ℕ) : Type 0 where
   gap : ℕ
-  from : cond (eqb (getD text pos 0) 32) (pos + 1) pos ≡ pos + gap
+  from : cond first pos (pos + 1) ≡ pos + gap
   b : ℕ
   k : ℕ
   digits : decimalAt 255 (drop (pos + gap) text) ≡ got b k
   whole : byteAt first (drop pos text) ≡ got b (gap + k)
 
-no-space : isDecimal 32 ≡ false
-unfolding isDecimal
-no-space = refl
-
 byte-read : (first : Bool) (text : List ℕ) (pos : ℕ) → isGot (byteAt first (drop pos text)) ≡ true → ByteRead first text pos
 unfolding byteAt
-byte-read true text pos h = go (eqb (getD text pos 0) 32) refl
-  where
-    go : (d : Bool) → eqb (getD text pos 0) 32 ≡ d → ByteRead true text pos
-    go true e =
-        let c : getD text pos 0 ≡ 32 = eqb-true (getD text pos 0) 32 e in
-        let n : getD text pos 0 ≡ 48 → ⊥ = λ q. omega arith in
-        absurd (no-read h (sym (decimal-none 255 text pos (inside-some text pos (omega arith)) n (ap isDecimal c ∙ no-space))))
-    go false e =
-        let g = got-of (decimalAt 255 (drop pos text)) h in
-        record { gap = 0; from = rw (e, add-zero pos); b = g .is; k = g .count; digits = rw (add-zero pos) (g .same); whole = rw (zero-add (g .count)) (g .same) }
+byte-read true text pos h =
+    let g = got-of (decimalAt 255 (drop pos text)) h in
+    record { gap = 0; from = rw (add-zero pos); b = g .is; k = g .count; digits = rw (add-zero pos) (g .same); whole = rw (zero-add (g .count)) (g .same) }
 byte-read false text pos h = go (eqb (getD text pos 0) 32) refl
   where
     spaced : Bool → Read ℕ
     spaced b = cond b (andRead (decimalAt 255 (drop (pos + 1) text)) spacedByte) wrong
 
     is : (b : Bool) → eqb (getD text pos 0) 32 ≡ b → byteAt false (drop pos text) ≡ spaced b
-    is b e = rw (front text pos, e, drop-drop 1 pos text)
+    is b e = rw (first-char text pos, e, drop-drop 1 pos text)
 
     go : (b : Bool) → eqb (getD text pos 0) 32 ≡ b → ByteRead false text pos
     go true e =
@@ -242,7 +223,7 @@ byte-read false text pos h = go (eqb (getD text pos 0) 32) refl
         let plus : suc (g .count) ≡ 1 + g .count = omega arith in
         record {
           gap = 1;
-          from = rw e;
+          from = refl;
           b = g .is;
           k = g .count;
           digits = g .same;
@@ -255,17 +236,16 @@ decimal-got : (limit : ℕ) (s : List ℕ) (n k : ℕ) (most : ℕ) → Within 0
     → (1 ≤ k) × (k ≤ length s) × (n ≤ most)
 decimal-got limit s n k most w e = let x = rw e at w in (x .0 .0, omega (arith, x .0 .1), x .1)
 
-pub blob-turn : (first : Bool) (text : List ℕ) (pos : ℕ) → (getD text pos 0 ≡ 125 → ⊥) → isGot (bytesAt first 0 (drop pos text)) ≡ true → BlobTurn first text pos
+blob-turn : (first : Bool) (text : List ℕ) (pos : ℕ) → (getD text pos 0 ≡ 125 → ⊥) → isGot (bytesAt first 0 (drop pos text)) ≡ true → BlobTurn first text pos
 blob-turn first text pos q h =
     let s : List ℕ = drop pos text in
-    let i : pos < length text = bytes-inside first text pos h in
-    let n : getD s 0 0 ≡ 125 → ⊥ = λ e. q (sym (front text pos) ∙ e) in
+    let n : getD s 0 0 ≡ 125 → ⊥ = λ e. q (sym (first-char text pos) ∙ e) in
     let r = byte-read first text pos (bytes-first first s n h) in
     let w = decimal-got 255 (drop (pos + r .gap) text) (r .b) (r .k) 255 (decimal-bounds 255 (drop (pos + r .gap) text)) (r .digits) in
-    let t = bytes-turn first s (r .b) (r .gap + r .k) (omega (arith, length-drop pos text)) n (omega (arith, w .0)) (r .whole) in
+    let i : pos < length text = bytes-inside first text pos h in
+    let t = bytes-turn first s (r .b) (r .gap + r .k) (omega (arith, i, length-drop pos text)) n (omega (arith, w .0)) (r .whole) in
     let e : pos + (r .gap + r .k) ≡ pos + r .gap + r .k = omega arith in
     record {
-      inside = i;
       gap = r .gap;
       from = r .from;
       b = r .b;
@@ -284,17 +264,43 @@ blob-turn first text pos q h =
 
 -- what the code read of it
 pub blob-known : {first : Bool} {text : List ℕ} {pos : ℕ} (t : BlobTurn first text pos) {from : ℕ} {r : Known}
-    → from ≡ cond (eqb (getD text pos 0) 32) (pos + 1) pos → KnownAs (decimalAt 255 (drop from text)) from r
+    → from ≡ cond first pos (pos + 1) → KnownAs (decimalAt 255 (drop from text)) from r
     → (r .bits ≡ t .b) × (r .end ≡ pos + t .gap + t .k)
 blob-known {first} {text} {pos} t {from} f w =
     let e : from ≡ pos + t .gap = f ∙ t .from in
     let r = known-is w (t .b) (t .k) (ap (λ (k : ℕ). decimalAt 255 (drop k text)) e ∙ t .there) in
     (r .0, omega (arith, r .1, e))
 
-pub blob-next : {all : Read (List ℕ)} {at used : ℕ} {kept text : List ℕ} {first : Bool} {pos end : ℕ} {store : List ℕ}
-    → Copying all at used kept (bytesAt first 0 (drop pos text)) pos end store → (t : BlobTurn first text pos) {b to : ℕ} → b ≡ t .b → to ≡ pos + t .gap + t .k
-    → Copying all at used kept (bytesAt false 0 (drop to text)) to (end + 1) (set store end b)
-blob-next x t e f = rw (e, f) (copying-turn x (t .b) (t .gap + t .k) _ (t .turn) _ (omega arith))
+blob-end : (first : Bool) (text : List ℕ) (pos : ℕ) → getD text pos 0 ≡ 125 → bytesAt first 0 (drop pos text) ≡ got [] 1
+blob-end first text pos e = bytes-end first (drop pos text) (first-char text pos ∙ e)
 
-pub blob-end : (first : Bool) (text : List ℕ) (pos : ℕ) → getD text pos 0 ≡ 125 → bytesAt first 0 (drop pos text) ≡ got [] 1
-blob-end first text pos e = bytes-end first (drop pos text) (front text pos ∙ e)
+-- THE BYTES OF A BLOB from `pos` on are left to copy: the first of all where none was written
+pub record BlobCopying (text : List ℕ) (at used : ℕ) (kept : List ℕ) (pos end : ℕ) (store : List ℕ) : Type 0 where
+  pub ahead : used ≤ end
+  pub copying : Copying (bytesAt true 0 (drop at text)) at used kept (bytesAt (eqb end used) 0 (drop pos text)) pos end store
+
+pub blob-start : (text : List ℕ) (at used : ℕ) (store : List ℕ) → isGot (bytesAt true 0 (drop at text)) ≡ true → BlobCopying text at used store at used store
+blob-start text at used store h = record {
+  ahead = omega arith;
+  copying = rw (eq-eqb used used refl) (copying-start (bytesAt true 0 (drop at text)) at used store h);
+}
+
+module _ {text : List ℕ} {at used : ℕ} {kept : List ℕ} {pos end : ℕ} {store : List ℕ} (x : BlobCopying text at used kept pos end store) where
+  pub blob-inside : pos < length text
+  blob-inside = bytes-inside (eqb end used) text pos (copying-got (x .copying))
+
+  pub blob-byte : (getD text pos 0 ≡ 125 → ⊥) → BlobTurn (eqb end used) text pos
+  blob-byte q = blob-turn (eqb end used) text pos q (copying-got (x .copying))
+
+  pub blob-room : BlobTurn (eqb end used) text pos → used + length (readOr [] (bytesAt true 0 (drop at text))) ≤ length kept → end < length store
+  blob-room t h = copying-room (x .copying) _ _ _ (t .turn) h
+
+  pub blob-next : (t : BlobTurn (eqb end used) text pos) {b to : ℕ} → b ≡ t .b → to ≡ pos + t .gap + t .k
+      → BlobCopying text at used kept to (end + 1) (set store end b)
+  blob-next t e f = record {
+    ahead = omega (arith, x .ahead);
+    copying = rw (ne-eqb (end + 1) used (λ q. omega (arith, q, x .ahead)), e, f) (copying-turn (x .copying) (t .b) (t .gap + t .k) _ (t .turn) _ (omega arith));
+  }
+
+  pub blob-done : getD text pos 0 ≡ 125 → BytesPut (bytesAt true 0 (drop at text)) at kept used (record { pos = pos + 1; used = end }) store
+  blob-done e = copying-done (x .copying) (blob-end (eqb end used) text pos e)

@@ -1,16 +1,14 @@
 -- Numbers of a text that was judged: what is known of each of their characters.
-use Prim.Native.Nat.{ℕ, zero, suc, _+_, _-_, _*_, _/_, _%_, _^_, _≤_, _<_}
+use Prim.Native.Nat.{ℕ, zero, suc, _+_, _-_, _*_, _^_, _≤_, _<_}
 use mathlib.Core.Path.{_≡_, refl, sym, ap, _∙_}
-use mathlib.Core.Bool.{Bool, true, false, cond, _&&_}
+use mathlib.Core.Bool.{Bool, true, false, cond, _&&_, _||_}
 use mathlib.Core.List.{List, [], _∷_}
 use mathlib.Core.Option.{Option, some}
 use mathlib.Core.Option as option
-use mathlib.Core.Logic.{_⊎_, inl, inr, ⊎-elim}
 use native.Mathlib.Omega.{arith}
 use native.Mathlib.Nat.{add-zero}
 use lib.Dec.{eqb, ltb, leb}
 use lib.ListN.{length, getD, drop, drop-of-length-le}
-use lib.Seq.{drop-drop, getD-drop}
 use borrow.Author.Tests.{le-leb, leb-true, leb-false, ltb-true, ltb-false, eqb-true, eqb-false}
 use Rattle.digits.specs.Read.{Read, got, wrong, andRead}
 use Rattle.digits.specs.Decimal.{isDecimal, moreDecimal, decimalAt}
@@ -19,11 +17,11 @@ use Rattle.digits.proofs.Fixing.{fixed-sound}
 use Rattle.text.specs.Read.{signSize, minusBits, intAt, intValue, minusScale, plusScale, scaleAt, smallScale}
 use Rattle.text.specs.Read.{Halves, halves, highOf, halvesOf, floatFrom, floatAt, floatValue, numberAt}
 use Rattle.text_value.specs.Answers.{AtMost}
-use Rattle.text_value.proofs.Decimals.{decimal-range, inside-some, more-end, more-stop, more-over, more-turn, decimal-past}
-use Rattle.text_value.proofs.Decimals.{decimal-more, decimal-none}
-use Rattle.text_value.proofs.Fixeds.{range, digit-decimal, digit-letter, digit-other, fixed-stop, fixed-turn}
+use Rattle.text_value.proofs.Decimals.{first-char, inside-some, digit-in, more-over, more-turn, decimal-past, decimal-more, decimal-none}
+use Rattle.text_value.proofs.ByteDigits.{figure, threeFigures, first-none, too-large, three-digits}
+use Rattle.text_value.proofs.Fixeds.{fixed-stop, fixed-turn}
 use Rattle.text_value.proofs.Bounds.{decimal-bounds, scale-bounds}
-use Rattle.text_value.proofs.Floats.{scale-plus, scale-minus, scale-none}
+use Rattle.text_value.proofs.Floats.{int-minus, int-plain, scale-plus, scale-minus, scale-none}
 use Rattle.text_value.proofs.Floats.{float-unframed, float-parts, float-no-low, float-no-fraction, number-float, number-int}
 use Rattle.text_decode.specs.declared.known.Known.{Known}
 use Rattle.text_decode.specs.Pieces.{isGot, isSome, sizeRead, readOr, KnownAs, knownDecimal, knownHigh}
@@ -48,6 +46,10 @@ no-read h e = let f = rw e at h in let z : _≡_ {A = ℕ} 0 1 = cc in omega ari
 pub got-first : {A B : Type 0} (r : Read A) (go : A → ℕ → Read B) → isGot (andRead r go) ≡ true → isGot r ≡ true
 got-first (got a n) go h = refl
 got-first wrong go h = h
+
+-- a number that was read is no larger than its limit
+most-got : (most : ℕ) {r : Read ℕ} {n k : ℕ} → r ≡ got n k → AtMost most r → n ≤ most
+most-got most e w = rw e at w
 
 -- a number that may not be there is
 pub none-not : {o : Option ℕ} → isSome o ≡ true → o ≡ option.none → ⊥
@@ -119,31 +121,41 @@ decimal-start limit s at l n h = go (isDecimal (getD s at 0)) refl
     go : (b : Bool) → isDecimal (getD s at 0) ≡ b → decimalAt limit (drop at s) ≡ moreDecimal limit 0 0 (drop at s)
     go true d =
         let e : 10 * 0 + (getD s at 0 - 48) ≡ getD s at 0 - 48 = omega arith in
-        let f : 10 * 0 + (getD s at 0 - 48) ≤ limit = omega (arith, decimal-range (getD s at 0) d) in
+        let f : 10 * 0 + (getD s at 0 - 48) ≤ limit = omega (arith, digit-in s at d) in
         sym (more-turn (moreDecimal limit 0 0 (drop at s)) limit 0 0 s at refl inside d f ∙ rw e (decimal-more limit s at inside n d))
     go false d = absurd (no-read h (sym (decimal-none limit s at inside n d)))
 
 -- ONE TURN: before it, L is what the digits from offset i on make behind `value`
 module _ (L : Read ℕ) (limit value count : ℕ) (s : List ℕ) (i : ℕ) (inv : L ≡ moreDecimal limit value count (drop i s)) where
-  pub digits-done : isDecimal (getD s i 0) ≡ false → L ≡ got value count
-  digits-done d = go (ltb i (length s)) refl
-    where
-      go : (b : Bool) → ltb i (length s) ≡ b → L ≡ got value count
-      go true e = sym (more-stop L limit value count s i inv (ltb-true i (length s) e) d)
-      go false e = sym (more-end L limit value count s i inv (ltb-false i (length s) e))
-
   pub digit-turn : isGot L ≡ true → isDecimal (getD s i 0) ≡ true
       → (i < length s) × (48 ≤ getD s i 0) × (getD s i 0 ≤ 57) × (10 * value + (getD s i 0 - 48) ≤ limit)
       × (L ≡ moreDecimal limit (10 * value + (getD s i 0 - 48)) (suc count) (drop (i + 1) s))
   digit-turn h d =
-      let r = decimal-range (getD s i 0) d in
-      let inside : i < length s = inside-some s i (omega (arith, r)) in
-      let fits = go inside (leb (10 * value + (getD s i 0 - 48)) limit) refl in
-      (inside, r .0, r .1, fits, more-turn L limit value count s i inv inside d fits)
+      let r = digit-in s i d in
+      let fits = go (leb (10 * value + (getD s i 0 - 48)) limit) refl in
+      (r .0, r .1, r .2, fits, more-turn L limit value count s i inv (r .0) d fits)
     where
-      go : i < length s → (b : Bool) → leb (10 * value + (getD s i 0 - 48)) limit ≡ b → 10 * value + (getD s i 0 - 48) ≤ limit
-      go inside true e = leb-true (10 * value + (getD s i 0 - 48)) limit e
-      go inside false e = absurd (no-read h (sym (more-over L limit value count s i inv inside d (leb-false (10 * value + (getD s i 0 - 48)) limit e))))
+      go : (b : Bool) → leb (10 * value + (getD s i 0 - 48)) limit ≡ b → 10 * value + (getD s i 0 - 48) ≤ limit
+      go true e = leb-true (10 * value + (getD s i 0 - 48)) limit e
+      go false e =
+          absurd (no-read h (sym (more-over L limit value count s i inv (digit-in s i d .0) d (leb-false (10 * value + (getD s i 0 - 48)) limit e))))
+
+-- A BYTE IN DECIMAL: its first character is a digit, and behind three digits stands no other
+module _ (s : List ℕ) (at : ℕ) (there : isGot (decimalAt 255 (drop at s)) ≡ true) where
+  pub byte-first : isDecimal (getD s at 0) ≡ true
+  byte-first = go (isDecimal (getD s at 0)) refl
+    where
+      go : (b : Bool) → isDecimal (getD s at 0) ≡ b → isDecimal (getD s at 0) ≡ true
+      go true e = e
+      go false e = absurd (no-read there (sym (first-none s at e)))
+
+  pub byte-three : 0 < figure s at → isDecimal (getD s (at + 1) 0) ≡ true → isDecimal (getD s (at + 2) 0) ≡ true
+      → decimalAt 255 (drop at s) ≡ got (threeFigures s at) 3
+  byte-three more two three = go (ltb 255 (threeFigures s at) || isDecimal (getD s (at + 3) 0)) refl
+    where
+      go : (b : Bool) → (ltb 255 (threeFigures s at) || isDecimal (getD s (at + 3) 0)) ≡ b → decimalAt 255 (drop at s) ≡ got (threeFigures s at) 3
+      go true e = absurd (no-read there (sym (too-large s at byte-first more two three _ refl e)))
+      go false e = sym (three-digits s at byte-first more two three _ refl e)
 
 -- INTS
 -- the digits behind the sign that say an int
@@ -159,18 +171,6 @@ minus-got : (n k : ℕ) → isGot (minusBits n k) ≡ true → (1 ≤ n) × (min
 minus-got zero k h = absurd (let z : _≡_ {A = ℕ} 0 1 = cc in omega arith)
 minus-got (suc n) k h = (omega arith, refl)
 
-first-char : (s : List ℕ) (at : ℕ) → getD (drop at s) 0 0 ≡ getD s at 0
-first-char s at = rw (getD-drop, add-zero)
-
--- an int with a minus, and one without
-one-minus : (s : List ℕ) (at : ℕ) → eqb (getD s at 0) 45 ≡ true → intAt (drop at s) ≡ andRead (decimalAt 2147483648 (drop (at + 1) s)) minusBits
-unfolding intAt
-one-minus s at e = rw (first-char s at, e, drop-drop)
-
-no-minus : (s : List ℕ) (at : ℕ) → eqb (getD s at 0) 45 ≡ false → intAt (drop at s) ≡ decimalAt 2147483647 (drop at s)
-unfolding intAt
-no-minus s at e = rw (first-char s at, e)
-
 pub int-known : (s : List ℕ) (at sign : ℕ) → sign ≡ signSize (drop at s) → isGot (intAt (drop at s)) ≡ true → IntKnown s at sign
 unfolding signSize
 int-known s at sign is-sign h = go (eqb (getD s at 0) 45) refl
@@ -181,7 +181,7 @@ int-known s at sign is-sign h = go (eqb (getD s at 0) 45) refl
     go : (b : Bool) → eqb (getD s at 0) 45 ≡ b → IntKnown s at sign
     go true e =
         let one : sign ≡ 1 = sign-is true e in
-        let whole = one-minus s at e in
+        let whole = sym (int-minus s at (eqb-true (getD s at 0) 45 e)) in
         let g = got-of (decimalAt 2147483648 (drop (at + 1) s)) (got-first (decimalAt 2147483648 (drop (at + 1) s)) minusBits (rw whole at h)) in
         let all : intAt (drop at s) ≡ minusBits (g .is) (g .count) = whole ∙ ap (λ (r : Read ℕ). andRead r minusBits) (g .same) in
         let m = minus-got (g .is) (g .count) (rw all at h) in
@@ -195,7 +195,7 @@ int-known s at sign is-sign h = go (eqb (getD s at 0) 45) refl
         }
     go false e =
         let none : sign ≡ 0 = sign-is false e in
-        let whole = no-minus s at e in
+        let whole = sym (int-plain s at (eqb-false (getD s at 0) 45 e)) in
         let g = got-of (intAt (drop at s)) h in
         let same : decimalAt 2147483647 (drop at s) ≡ got (g .is) (g .count) = sym whole ∙ g .same in
         record {
@@ -224,9 +224,6 @@ scale-got (suc n) k h = refl
 pub scale-known : (s : List ℕ) (at : ℕ) → isGot (scaleAt (drop at s)) ≡ true → ScaleKnown s at
 scale-known s at h = go (eqb (getD s at 0) 43) (eqb (getD s at 0) 45) refl refl
   where
-    most : (limit n k : ℕ) → decimalAt limit (drop (at + 1) s) ≡ got n k → AtMost limit (decimalAt limit (drop (at + 1) s)) → n ≤ limit
-    most limit n k e w = rw e at w
-
     go : (b d : Bool) → eqb (getD s at 0) 43 ≡ b → eqb (getD s at 0) 45 ≡ d → ScaleKnown s at
     go true d e f =
         let c = eqb-true (getD s at 0) 43 e in
@@ -238,7 +235,7 @@ scale-known s at h = go (eqb (getD s at 0) 43) (eqb (getD s at 0) 45) refl refl
           k = g .count;
           inside = inside-some s at (omega arith);
           digits = decimal-known 1023 (drop (at + 1) s) (g .is) (g .count) (omega arith) (g .same);
-          plus = λ z. (most 1023 (g .is) (g .count) (g .same) (decimal-bounds 1023 (drop (at + 1) s) .1), whole ∙ ap (λ (r : Read ℕ). andRead r plusScale) (g .same));
+          plus = λ z. (most-got 1023 (g .same) (decimal-bounds 1023 (drop (at + 1) s) .1), whole ∙ ap (λ (r : Read ℕ). andRead r plusScale) (g .same));
           minus = λ z. absurd (z c);
         }
     go false true e f =
@@ -253,24 +250,11 @@ scale-known s at h = go (eqb (getD s at 0) 43) (eqb (getD s at 0) 45) refl refl
           inside = inside-some s at (omega arith);
           digits = decimal-known 1022 (drop (at + 1) s) (g .is) (g .count) (omega arith) (g .same);
           plus = λ z. absurd (eqb-false (getD s at 0) 43 e z);
-          minus = λ z. (most 1022 (g .is) (g .count) (g .same) (decimal-bounds 1022 (drop (at + 1) s) .1), all ∙ scale-got (g .is) (g .count) (rw all at h));
+          minus = λ z. (most-got 1022 (g .same) (decimal-bounds 1022 (drop (at + 1) s) .1), all ∙ scale-got (g .is) (g .count) (rw all at h));
         }
     go false false e f = absurd (no-read h (sym (scale-none s at (eqb-false (getD s at 0) 43 e) (eqb-false (getD s at 0) 45 f))))
 
 -- HEXADECIMAL DIGITS
--- a digit is a figure or a letter
-digit-cases : (c : ℕ) → digitOf c < 16 → (((48 ≤ c) × (c ≤ 57) × (digitOf c ≡ c - 48)) ⊎ ((97 ≤ c) × (c ≤ 102) × (digitOf c ≡ c - 87)))
-digit-cases c h = go (isDecimal c) (leb 97 c && leb c 102) refl refl
-  where
-    go : (a b : Bool) → isDecimal c ≡ a → (leb 97 c && leb c 102) ≡ b → (((48 ≤ c) × (c ≤ 57) × (digitOf c ≡ c - 48)) ⊎ ((97 ≤ c) × (c ≤ 102) × (digitOf c ≡ c - 87)))
-    go true b e f = let r = decimal-range c e in inl (r .0, r .1, digit-decimal c e)
-    go false true e f = let r = range 97 102 c f in inr (r .0, r .1, digit-letter c e f)
-    go false false e f = absurd (omega (arith, digit-other c e f))
-
--- a digit by arithmetic alone: the low half of its character, and 9 more for a letter
-pub hex-value : (c : ℕ) → digitOf c < 16 → (c ≤ 102) × (c % 16 + 9 * (c / 64) ≡ digitOf c)
-hex-value c h = ⊎-elim (λ x. (omega (arith, x), omega (arith, x))) (λ x. (omega (arith, x), omega (arith, x))) (digit-cases c h)
-
 -- one turn: before it, L is what `left` digits from offset i on make behind `value`
 pub hex-turn : (L : Option ℕ) (left value : ℕ) (s : List ℕ) (i : ℕ) → L ≡ fixedFrom 16 left value (drop i s) → isSome L ≡ true → 0 < left
     → (i < length s) × (digitOf (getD s i 0) < 16) × (L ≡ fixedFrom 16 (left - 1) (16 * value + digitOf (getD s i 0)) (drop (i + 1) s))
@@ -319,9 +303,6 @@ float-known sign s at h = framed (eqb (getD s at 0) 48 && (eqb (getD s (at + 3) 
     lead : ℕ
     lead = getD s (at + 2) 0
 
-    most-of : (r : Read ℕ) (n k : ℕ) → r ≡ got n k → AtMost 2046 r → n ≤ 2046
-    most-of r n k e w = rw e at w
-
     framed : (b : Bool) → (eqb (getD s at 0) 48 && (eqb (getD s (at + 3) 0) 46 && eqb (getD s (at + 17) 0) 112)) ≡ b → FloatKnown sign s at
     framed false e = absurd (no-read h (sym (float-unframed sign s at e)))
     framed true e = high (fixedAt 16 5 (drop (at + 4) s)) refl
@@ -341,7 +322,7 @@ float-known sign s at h = framed (eqb (getD s at 0) 48 && (eqb (getD s (at + 3) 
               low-is = l;
               scale-is = sym q;
               small = fixed-sound 16 (omega arith) (omega arith) 5 (drop (at + 4) s) fraction f .1;
-              most = most-of (scaleAt (drop (at + 18) s)) scale k (sym q) (scale-bounds (drop (at + 18) s) .1);
+              most = most-got 2046 (sym q) (scale-bounds (drop (at + 18) s) .1);
               whole = sym all ∙ exponent-got sign lead fraction low scale k (rw (sym all) at h);
             }
 
@@ -352,15 +333,6 @@ float-known sign s at h = framed (eqb (getD s at 0) 48 && (eqb (getD s (at + 3) 
         high : (o : Option ℕ) → fixedAt 16 5 (drop (at + 4) s) ≡ o → FloatKnown sign s at
         high (some fraction) f = lows fraction (fixedAt 16 8 (drop (at + 9) s)) f refl
         high option.none f = absurd (no-read h (sym (float-no-fraction sign s at e f)))
-
--- LAW: the low half of a float that was read is what its last eight digits say, and they are there
-pub float-low : (sign : ℕ) (s : List ℕ) (at : ℕ) (h : Halves) (n : ℕ) → floatAt sign (drop at s) ≡ got h n
-    → (fixedAt 16 8 (drop (at + 9) s) ≡ some (h .low)) × (at + 17 ≤ length s)
-float-low sign s at h n e =
-    let x = float-known sign s at (of-got e) in
-    let q : got (halves (x .low) (sign * 2 ^ 31 + (cond (eqb (getD s (at + 2) 0) 49) (x .scale) 0 * 2 ^ 20 + x .fraction))) (sign + 18 + x .k) ≡ got h n = sym (x .whole) ∙ e in
-    let l : x .low ≡ h .low = ap (λ (r : Read Halves). readOr (halves 0 0) r .low) q in
-    (x .low-is ∙ ap (λ (m : ℕ). some m) l, omega (arith, x .room))
 
 -- a float's high half and its characters behind the sign
 pub high-known : (sign : ℕ) (s : List ℕ) (at : ℕ) (x : FloatKnown sign s at)

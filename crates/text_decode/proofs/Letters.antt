@@ -9,11 +9,13 @@ use lib.Dec.{eqb, ltb, leb}
 use lib.ListN.{length, getD, drop, drop-of-length-le}
 use borrow.Author.Tests.{eq-eqb, ne-eqb, eqb-true, eqb-false}
 use Rattle.digits.specs.Read.{Read, got, wrong, andRead}
+use Rattle.digits.proofs.Judging.{both-left}
 use Rattle.text.specs.Text.{isPrinted, isMarked}
 use Rattle.text.specs.Form.{isLetter}
 use Rattle.text.specs.Read.{lettersAt, vocabAt, octalByte, escapeAt, charAt}
+use Rattle.text.proofs.Fronts.{or-left, or-right}
 use Rattle.text_value.specs.Answers.{octalDigit}
-use Rattle.text_value.proofs.Decimals.{both, drop-next}
+use Rattle.text_value.proofs.Decimals.{drop-next}
 use Rattle.text_value.proofs.Fixeds.{range, octal-is, octal-other, power-next, power-most}
 use Rattle.text_value.proofs.Letters.{behind, letter-next, vocab-start, vocab-end, vocab-empty, vocab-close, vocab-stop, vocab-turn}
 use Rattle.text_value.proofs.Letters.{escape-past, escape-marked, escape-short, escape-none, escape-byte}
@@ -115,10 +117,6 @@ below-8 c n = go (leb 48 c && leb c 55) refl
     go true e = let r = range 48 55 c e in (octal-is c e, r .0, r .1)
     go false e = absurd (eqb-false (octalDigit c) 8 n (octal-other c e))
 
-or-false : (a b : Bool) → (a || b) ≡ false → (a ≡ false) × (b ≡ false)
-or-false false b h = (refl, h)
-or-false true b h = absurd (let z : _≡_ {A = ℕ} 0 1 = cc in omega arith)
-
 octal-got : (n : ℕ) (r : Read ℕ) → octalByte n ≡ r → isGot r ≡ true → r ≡ got n 4
 octal-got n r e h = sym e ∙ go (not (eqb n 0) && (ltb n 256 && not (isPrinted n))) (rw e h)
   where
@@ -153,11 +151,10 @@ module _ (s : List ℕ) (at : ℕ) (there : isGot (escapeAt (drop at s)) ≡ tru
       go : (b : Bool) → (eqb x 8 || (eqb y 8 || eqb z 8)) ≡ b → Octal s at (at + 1) (at + 2)
       go true t = absurd (no-read there (sym (escape-none s at x y z refl refl refl e room t)))
       go false t =
-          let f = or-false (eqb x 8) (eqb y 8 || eqb z 8) t in
-          let g = or-false (eqb y 8) (eqb z 8) (f .1) in
-          let a = below-8 (getD s at 0) (f .0) in
-          let b = below-8 (getD s (at + 1) 0) (g .0) in
-          let d = below-8 (getD s (at + 2) 0) (g .1) in
+          let more = or-right (eqb x 8) (eqb y 8 || eqb z 8) t in
+          let a = below-8 (getD s at 0) (or-left (eqb x 8) (eqb y 8 || eqb z 8) t) in
+          let b = below-8 (getD s (at + 1) 0) (or-left (eqb y 8) (eqb z 8) more) in
+          let d = below-8 (getD s (at + 2) 0) (or-right (eqb y 8) (eqb z 8) more) in
           record {
             room = room;
             x = (a .1, a .2);
@@ -194,7 +191,7 @@ module _ (s : List ℕ) (at : ℕ) (there : isGot (charAt (drop at s)) ≡ true)
 
   printed : (getD s at 0 ≡ 92 → ⊥) → (b : Bool) → (isPrinted (getD s at 0) && not (isMarked (getD s at 0))) ≡ b → isPrinted (getD s at 0) ≡ true
   unfolding charAt
-  printed n true e = both (isPrinted (getD s at 0)) (not (isMarked (getD s at 0))) e .0
+  printed n true e = both-left (isPrinted (getD s at 0)) (not (isMarked (getD s at 0))) e
   printed n false e = absurd (no-read there (ap charAt split ∙ rw (ne-eqb (getD s at 0) 92 n, e)))
 
   pub char-small : (getD s at 0 ≡ 92 → ⊥) → getD s at 0 ≤ 126

@@ -1,6 +1,5 @@
 pub mod Knowns
 pub mod Letters
-pub mod ByteDigits
 pub mod Copies
 pub mod Values
 pub mod Fillings

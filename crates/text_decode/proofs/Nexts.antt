@@ -6,11 +6,9 @@ use mathlib.Core.List.{List, [], _∷_}
 use mathlib.Core.Option.{Option, some}
 use mathlib.Core.Option as option
 use native.Mathlib.Omega.{arith}
-use native.Mathlib.Numerals.{add-one}
-use native.Mathlib.Nat.{add-zero}
 use lib.Dec.{eqb}
 use lib.ListN.{length, getD, take, drop, length-drop}
-use lib.Seq.{drop-cons, drop-drop, getD-drop}
+use lib.Seq.{drop-drop}
 use borrow.Author.Tests.{eqb-true, eq-eqb, ne-eqb}
 use Rattle.digits.specs.Read.{Read, got, wrong, andRead}
 use Rattle.digits.proofs.Judging.{Judged, judged-got, judged-all, judged-test, judged-read}
@@ -20,6 +18,7 @@ use Rattle.text.specs.Read.{valueAt}
 use Rattle.text.specs.Tokens.{Token, opening, closing, item, opens, itemToken, elementAt, spaced, tokenAt, tokenThen, tokensAt}
 use Rattle.text.proofs.Values.{value-sound, value-first, value-some}
 use Rattle.text.proofs.Characters.{tokens-got, tokens-wrong, token-counts}
+use Rattle.text_value.proofs.Decimals.{drop-next, first-char}
 
 -- the tokens behind the first
 record Behind (s : List ℕ) (t : Token) (n : ℕ) (ts : List Token) : Type 0 where
@@ -93,10 +92,6 @@ pub record Next (text : List ℕ) (at : ℕ) (ts : List Token) : Type 0 where
   pub is : ts ≡ token ∷ ts′
   pub left : tokensAt (opens token) 0 (drop (at + size) text) ≡ some ts′
 
--- the characters from an offset on
-pub from-here : (text : List ℕ) (pos : ℕ) → pos < length text → drop pos text ≡ getD text pos 0 ∷ drop (pos + 1) text
-from-here text pos h = rw (add-one pos) (drop-cons text pos 0 h)
-
 module _ (first : Bool) (text : List ℕ) (pos : ℕ) (ts : List Token) (some-left : pos < length text) (h : tokensAt first 0 (drop pos text) ≡ some ts) where
   abbrev c : ℕ
   c = getD text pos 0
@@ -105,10 +100,10 @@ module _ (first : Bool) (text : List ℕ) (pos : ℕ) (ts : List Token) (some-le
   s = drop (pos + 1) text
 
   here : tokensAt first 0 (c ∷ s) ≡ some ts
-  here = rw (from-here text pos some-left) at h
+  here = rw (drop-next text pos some-left) at h
 
   behind : (k : ℕ) → drop k (c ∷ s) ≡ drop (pos + k) text
-  behind k = ap (drop k) (sym (from-here text pos some-left)) ∙ drop-drop k pos text
+  behind k = ap (drop k) (sym (drop-next text pos some-left)) ∙ drop-drop k pos text
 
   -- what is no closing bracket is an element
   pub next-element : eqb c 41 ≡ false → Next text (cond (eqb c 32) (pos + 1) pos) ts
@@ -165,11 +160,8 @@ element-cases (c ∷ s) t n h = (opened, valued)
     valued e = go (valueAt (c ∷ s)) refl (rw (ne-eqb c 40 e) at h)
 
 module _ {text : List ℕ} {at : ℕ} {ts : List Token} (x : Next text at ts) where
-  first-char : getD (drop at text) 0 0 ≡ getD text at 0
-  first-char = rw (getD-drop, add-zero)
-
   pub next-opening : getD text at 0 ≡ 40 → (x .token ≡ opening) × (x .size ≡ 1)
-  next-opening e = element-cases (drop at text) (x .token) (x .size) (x .there) .0 (first-char ∙ e)
+  next-opening e = element-cases (drop at text) (x .token) (x .size) (x .there) .0 (first-char text at ∙ e)
 
   pub next-value : (getD text at 0 ≡ 40 → ⊥) → (v : Value) × (x .token ≡ item v) × (valueAt (drop at text) ≡ got v (x .size))
-  next-value e = element-cases (drop at text) (x .token) (x .size) (x .there) .1 (λ f. e (sym first-char ∙ f))
+  next-value e = element-cases (drop at text) (x .token) (x .size) (x .there) .1 (λ f. e (sym (first-char text at) ∙ f))

@@ -16,16 +16,11 @@ use Rattle.list.specs.Tree.{Value, int, vocab, str, blob}
 use Rattle.list.specs.Rows.{valueRow, valueStore}
 use Rattle.list.specs.RowBytes.{packed}
 use Rattle.text.specs.Read.{signSize, intAt, floatAt, intValue, floatValue, numberAt, vocabAt, charsAt, bytesAt, within, valueAt}
+use Rattle.text_value.proofs.Decimals.{drop-next}
 use Rattle.text_decode.specs.declared.put.CopiedTo.{CopiedTo}
 use Rattle.text_decode.specs.declared.element.Cursor.{Cursor}
 use Rattle.text_decode.specs.Pieces.{isGot, sizeRead, readOr, BytesHere, BytesPut, cursor, FixedHere, FixedPut, vocabFrom, ValueHere, ValuePut}
-use Rattle.text_decode.proofs.Nexts.{from-here}
 use Rattle.text_decode.proofs.Knowns.{Got, got-of, of-got, got-first, lt-of}
-
--- a row with nothing in the store
-pub fixed-put : {p : Read Value} (v : Value) (n : ℕ) (x : Cursor) (rows rows′ : List ℕ) → p ≡ got v n
-    → rows′ ≡ sets rows (x .row) (packed (valueRow (x .used) v)) → FixedPut p x rows (cursor (x .pos + n) (x .row + 12) (x .used)) rows′
-fixed-put v n x rows rows′ e h = record { to = rw e; holds = rw e h }
 
 -- VALUES BY THEIR FIRST CHARACTERS
 module _ (text : List ℕ) (pos : ℕ) where
@@ -36,20 +31,20 @@ module _ (text : List ℕ) (pos : ℕ) where
   module _ (inside : pos < length text) where
     pub value-string : getD text pos 0 ≡ 34 → valueAt (drop pos text) ≡ andRead (charsAt 0 (drop (pos + 1) text)) (within str)
     unfolding valueAt
-    value-string e = rw (from-here text pos inside, eq-eqb (getD text pos 0) 34 e)
+    value-string e = rw (drop-next text pos inside, eq-eqb (getD text pos 0) 34 e)
 
     pub value-blob : getD text pos 0 ≡ 123 → valueAt (drop pos text) ≡ andRead (bytesAt true 0 (drop (pos + 1) text)) (within blob)
     unfolding valueAt
-    value-blob e = rw (from-here text pos inside, e)
+    value-blob e = rw (drop-next text pos inside, e)
 
     pub value-vocab : getD text pos 0 ≡ 91 → valueAt (drop pos text) ≡ andRead (vocabAt (drop (pos + 1) text)) (within vocab)
     unfolding valueAt
-    value-vocab e = rw (from-here text pos inside, e)
+    value-vocab e = rw (drop-next text pos inside, e)
 
     pub value-number : (getD text pos 0 ≡ 34 → ⊥) → (getD text pos 0 ≡ 123 → ⊥) → (getD text pos 0 ≡ 91 → ⊥) → valueAt (drop pos text) ≡ numberAt (drop pos text)
     unfolding valueAt
     value-number a b c =
-        rw (from-here text pos inside, ne-eqb (getD text pos 0) 34 a, ne-eqb (getD text pos 0) 123 b, ne-eqb (getD text pos 0) 91 c)
+        rw (drop-next text pos inside, ne-eqb (getD text pos 0) 34 a, ne-eqb (getD text pos 0) 123 b, ne-eqb (getD text pos 0) 91 c)
 
 -- STRINGS AND BLOBS
 module _ (kind : List ℕ → Value) (code : ℕ) (store-is : (bs : List ℕ) → valueStore (kind bs) ≡ bs)

@@ -1,5 +1,5 @@
 // Reads what was judged before: every test that judging makes is known to pass, and is left out.
-ghost use Prim.Native.Nat.{_+_, _≤_, _<_};
+ghost use Prim.Native.Nat.{_+_, _-_, _^_, _≤_, _<_};
 ghost use mathlib.Core.Path.{_≡_};
 ghost use mathlib.Core.Bool.{true, cond};
 ghost use lib.Dec.{eqb};
@@ -207,15 +207,15 @@ pub fn known_char(text: &[u8], at: usize) -> Known
     }
 }
 
-// Behind the space before a byte of a blob.
-pub fn behind_gap(text: &[u8], at: usize) -> usize
-    requires { ⌜ at < length (now text) ⌝ }
-    ensures { λ r. ⌜ r ≡ cond (eqb (getD (now (text .entry)) at 0) 32) (at + 1) at ⌝ }
+// Behind the space before a byte of a blob; the first has none.
+pub fn behind_gap(at: usize, first: bool) -> usize
+    requires { ⌜ at < 2 ^ 64 - 1 ⌝ }
+    ensures { λ r. ⌜ r ≡ cond first at (at + 1) ⌝ }
 {
-    if text[at] == 32 {
-        return at + 1;
+    if first {
+        return at;
     }
-    at
+    at + 1
 }
 
 // A minus is one character.

@@ -55,7 +55,7 @@ pub fn put_blob(text: &[u8], at: usize, store: &mut [u8], used: usize) -> Copied
     let mut pos = at;
     let mut end = used;
     while text[pos] != 125 {
-        let byte = known_byte(text, behind_gap(text, pos));
+        let byte = known_byte(text, behind_gap(pos, end == used));
         store[end] = byte.bits as u8;
         pos = byte.end;
         end += 1;

@@ -1,48 +1,40 @@
 -- The text that is spelt from the rows and the store of a list is the list's text.
-use Prim.Native.Nat.{ℕ, zero, suc, _+_, _-_, _*_, _≤_, _<_}
+use Prim.Native.Nat.{ℕ, suc, _+_, _-_, _≤_, _<_}
+use mathlib.Core.Bool.{true, false}
 use mathlib.Core.Path.{_≡_, refl, sym, ap, _∙_}
-use mathlib.Core.Bool.{Bool, true, false}
 use mathlib.Core.List.{List, [], _∷_, _++_, append-assoc, append-nil}
 use native.Mathlib.Omega.{arith}
-use native.Mathlib.Nat.{add-zero}
+use native.Mathlib.Nat.{add-zero, zero-add}
 use native.Mathlib.Numerals.{sub-one}
-use lib.ListN.{length, getD, drop, length-append, length-drop}
+use lib.Dec.{eqb}
+use borrow.Author.Tests.{ne-eqb}
+use lib.ListN.{length, drop}
 use Rattle.list.specs.declared.Row.{Row}
 use Rattle.list.specs.Kind.{codeOf, listCode, kindOf}
 use Rattle.list.specs.Limits.{depthLimit}
 use Rattle.list.specs.Tree.{Value, Elements, int, vocab, float, str, blob, none, value, list, kind, count}
-use Rattle.list.specs.Rows.{valueStore, elementStore, valueRow, listRow, elementRows, elementCount, listRows, listStore}
+use Rattle.list.specs.Rows.{valueStore, elementStore, valueRow, elementRows, listRows, listStore}
 use Rattle.list.specs.RowBytes.{row, rowAt}
 use Rattle.list.proofs.Codes.{code-low}
-use Rattle.list.proofs.RowBound.{value-row}
 use Rattle.list_rows.specs.Described.{part}
 use Rattle.list_rows.specs.Judge.{nested, depth}
-use Rattle.list_rows.specs.Row.{rowsIn, rowsFrom, stored}
+use Rattle.list_rows.specs.Row.{stored}
 use Rattle.list_rows.proofs.Rows.{part-is}
 use Rattle.list_rows.proofs.Accepted.{past-value, past-list, used-value, used-list, DescribedBy}
-use Rattle.list_rows.proofs.Depths.{number-at, past-row, past-in}
 use Rattle.text.specs.Text.{gap, valueText, elementsText, listText}
-use Rattle.text_encode.specs.Spell.{Spelt, spelt, joinedTo, rowText, spellIn, spell, spellList}
-use Rattle.text_encode.proofs.Turns.{enclosed, spell-done, spell-list, spell-value}
-
-spelt-same : {t t′ : List ℕ} {r r′ u u′ : ℕ} → t ≡ t′ → r ≡ r′ → u ≡ u′ → spelt t r u ≡ spelt t′ r′ u′
-spelt-same e f g = rw (e, f, g)
+use Rattle.text_encode.specs.Spell.{rowText, spell, spellList}
+use Rattle.text_encode.proofs.Turns.{spell-close, spell-end, spell-value, spell-list}
 
 -- the row of a value
 abbrev rowFor : ℕ → Value → Row
 rowFor used v = rowAt (valueRow used v) 0
 
-front-value : (v : Value) (used : ℕ) (rest : List ℕ) → rowAt (valueRow used v ++ rest) 0 ≡ rowFor used v
+front-value : (v : Value) (used : ℕ) (rest : List ℕ) → valueRow used v ++ rest ≡ rowFor used v .code ∷ rowFor used v .second ∷ rowFor used v .third ∷ rest
 front-value (int n) used rest = refl
 front-value (vocab n) used rest = refl
 front-value (float low high) used rest = refl
 front-value (str bs) used rest = refl
 front-value (blob bs) used rest = refl
-
-row-from : (rows : List ℕ) (at : ℕ) (xs : List ℕ) → rowsFrom rows at ≡ xs → rowAt rows (3 * at) ≡ rowAt xs 0
-row-from rows at xs h =
-    let a : getD rows (3 * at) 0 ≡ getD xs 0 0 = rw add-zero at (number-at rows (3 * at) xs h 0) in
-    rw (a, number-at rows (3 * at) xs h 1, number-at rows (3 * at) xs h 2)
 
 value-code : (v : Value) (used : ℕ) → rowFor used v .code ≡ codeOf (kind v)
 value-code (int n) used = refl
@@ -51,7 +43,7 @@ value-code (float low high) used = refl
 value-code (str bs) used = refl
 value-code (blob bs) used = refl
 
-value-stored : (v : Value) (used : ℕ) → length (valueStore v) ≡ stored (rowFor used v)
+value-stored : (v : Value) (used : ℕ) → stored (rowFor used v) ≡ length (valueStore v)
 unfolding stored kindOf
 value-stored (int n) used = refl
 value-stored (vocab n) used = refl
@@ -67,75 +59,78 @@ value-text (float low high) used = refl
 value-text (str bs) used = refl
 value-text (blob bs) used = refl
 
-spell-suc : (d : ℕ) (rows store : List ℕ) (n at used : ℕ) → spell (suc d) rows store n at used ≡ spellIn (spell d rows store) rows store n true at used
-unfolding spell
-spell-suc d rows store n at used = refl
+-- the text of elements with the space behind each, where `left` more follow the last
+abbrev spaced : Elements → ℕ → List ℕ
+spaced none left = []
+spaced (value v es) left = valueText v ++ (gap (eqb (count es + left) 0) ++ spaced es left)
+spaced (list a es) left = 40 ∷ (spaced a 0 ++ (41 ∷ (gap (eqb (count es + left) 0) ++ spaced es left)))
 
-module _ (rows store : List ℕ) where
+-- a space before each element but the first is a space behind each but the last
+gap-first : (es : Elements) → gap (eqb (count es + 0) 0) ++ elementsText true es ≡ elementsText false es
+gap-first none = refl
+gap-first (value v es) = rw (add-zero (count (value v es)), ne-eqb (count (value v es)) 0 (λ (e : count (value v es) ≡ 0). omega arith))
+gap-first (list a es) = rw (add-zero (count (list a es)), ne-eqb (count (list a es)) 0 (λ (e : count (list a es) ≡ 0). omega arith))
+
+spaced-is : (es : Elements) → spaced es 0 ≡ elementsText true es
+spaced-is none = refl
+spaced-is (value v es) = ap (λ (t : List ℕ). valueText v ++ (gap (eqb (count es + 0) 0) ++ t)) (spaced-is es) ∙ ap (λ (t : List ℕ). valueText v ++ t) (gap-first es)
+spaced-is (list a es) =
+    ap (λ (t : List ℕ). 40 ∷ (t ++ (41 ∷ (gap (eqb (count es + 0) 0) ++ spaced es 0)))) (spaced-is a)
+    ∙ ap (λ (t : List ℕ). 40 ∷ (elementsText true a ++ (41 ∷ t))) (ap (λ (t : List ℕ). gap (eqb (count es + 0) 0) ++ t) (spaced-is es) ∙ gap-first es)
+
+module _ (store : List ℕ) where
   -- a value in front of other elements
   step-value :
-      (inner : ℕ → ℕ → ℕ → Spelt) (v : Value) (n : ℕ) (first : Bool) (at used : ℕ) (rest behind : List ℕ)
-      → rowsFrom rows at ≡ valueRow used v ++ rest → drop used store ≡ valueStore v ++ behind
-      → spellIn inner rows store (suc n) first at used
-      ≡ joinedTo (gap first ++ valueText v) (spellIn inner rows store n false (at + 1) (used + length (valueStore v)))
-  step-value inner v n first at used rest behind h b =
-      let long : at < rowsIn rows = omega (arith, value-row used v, simp (length-drop, length-append) at (ap length h)) in
-      let is-r : rowFor used v ≡ rowAt rows (3 * at) = sym (row-from rows at (valueRow used v ++ rest) h ∙ front-value v used rest) in
+      (v : Value) (n used : ℕ) (outer rest behind : List ℕ) → drop used store ≡ valueStore v ++ behind
+      → spell store (valueRow used v ++ rest) used outer (suc n) ≡ valueText v ++ (gap (eqb n 0) ++ spell store rest (used + length (valueStore v)) outer n)
+  step-value v n used outer rest behind b =
       let single : rowFor used v .code ≡ listCode → ⊥ = λ (e : rowFor used v .code ≡ listCode). omega (arith, value-code v used, code-low (kind v) .1) in
-      let m : suc n - 1 ≡ n = sub-one (suc n) in
-      spell-value inner rows store (suc n) first at used (omega arith) long (rowFor used v) is-r single (length (valueStore v)) (value-stored v used)
-      ∙ ap (λ (k : ℕ). joinedTo (gap first ++ rowText (part store used (length (valueStore v))) (rowFor used v))
-      (spellIn inner rows store k false (at + 1) (used + length (valueStore v)))) m
-      ∙ ap (λ (x : List ℕ). joinedTo (gap first ++ x) (spellIn inner rows store n false (at + 1) (used + length (valueStore v))))
-      (ap (λ (x : List ℕ). rowText x (rowFor used v)) (part-is store used (valueStore v) behind b) ∙ value-text v used)
+      ap (λ (l : List ℕ). spell store l used outer (suc n)) (front-value v used rest)
+      ∙ spell-value store (rowFor used v) rest used outer (suc n) (omega arith) single
+      ∙ rw (value-stored v used, sub-one (suc n), part-is store used (valueStore v) behind b, value-text v used)
 
   -- a list in front of other elements
   step-list :
-      (inner : ℕ → ℕ → ℕ → Spelt) (a : Elements) (n : ℕ) (first : Bool) (at used : ℕ) (rest : List ℕ) (y : Spelt)
-      → rowsFrom rows at ≡ listRow a ++ rest → y ≡ inner (count a) (at + 1) used
-      → spellIn inner rows store (suc n) first at used ≡ joinedTo (gap first ++ enclosed (y .text)) (spellIn inner rows store n false (y .row) (y .used))
-  step-list inner a n first at used rest y h is-y =
-      let long : at < rowsIn rows = omega (arith, simp (length-drop, length-append) at (ap length h)) in
-      let is-r : row listCode (count a) 0 ≡ rowAt rows (3 * at) = sym (row-from rows at (listRow a ++ rest) h) in
-      spell-list inner rows store (suc n) first at used (omega arith) long (row listCode (count a) 0) is-r refl y is-y
-      ∙ ap (λ (k : ℕ). joinedTo (gap first ++ enclosed (y .text)) (spellIn inner rows store k false (y .row) (y .used))) (sub-one (suc n))
+      (a : Elements) (n used : ℕ) (outer rest : List ℕ) → length outer < depthLimit
+      → spell store (listCode ∷ count a ∷ 0 ∷ rest) used outer (suc n) ≡ 40 ∷ spell store rest used (n ∷ outer) (count a)
+  step-list a n used outer rest l =
+      spell-list store (row listCode (count a) 0) rest used outer (suc n) (omega arith) refl l ∙ rw (sub-one (suc n))
 
-  -- LAW: elements that are not too deep are spelt as their text, and the spelling goes past their rows and their store bytes
-  pub spell-elements :
-      (es : Elements) (d : ℕ) (first : Bool) (at used : ℕ) (rest behind : List ℕ) → nested es ≤ d
-      → rowsFrom rows at ≡ elementRows used es ++ rest → drop used store ≡ elementStore es ++ behind
-      → spellIn (spell d rows store) rows store (count es) first at used
-      ≡ spelt (elementsText first es) (at + elementCount es) (used + length (elementStore es))
-  spell-elements none d first at used rest behind l h b =
-      spell-done (spell d rows store) rows store 0 first at used (omega arith) ∙ spelt-same refl (sym (add-zero at)) (sym (add-zero used))
-  spell-elements (value v es) d first at used rest behind l h b =
-      let p = past-row rows v es used at rest h in
+  -- LAW: elements that are not too deep are spelt as their text, and what is spelt behind them comes next
+  spell-elements :
+      (es : Elements) (used : ℕ) (outer : List ℕ) (left : ℕ) (rest behind : List ℕ) → length outer + nested es ≤ depthLimit
+      → drop used store ≡ elementStore es ++ behind
+      → spell store (elementRows used es ++ rest) used outer (count es + left) ≡ spaced es left ++ spell store rest (used + length (elementStore es)) outer left
+  spell-elements none used outer left rest behind l b = rw (zero-add left, add-zero used)
+  spell-elements (value v es) used outer left rest behind l b =
+      let m : suc (count es) + left ≡ suc (count es + left) = omega arith in
       let q = past-value v es store used behind b in
       let u : ℕ = used + length (valueStore v) in
-      step-value (spell d rows store) v (count es) first at used _ _ (p .0) (q .0)
-      ∙ ap (joinedTo (gap first ++ valueText v)) (spell-elements es d false (at + 1) u rest behind l (p .1) (q .1))
-      ∙ spelt-same (append-assoc (gap first) (valueText v) (elementsText false es)) (omega arith) (used-value v es used)
-  spell-elements (list a es) zero first at used rest behind l h b = absurd (omega arith)
-  spell-elements (list a es) (suc d) first at used rest behind l h b =
-      let p = past-in rows at a es used rest h in
+      let g : List ℕ = gap (eqb (count es + left) 0) in
+      rw (m, append-assoc (valueRow used v) (elementRows u es) rest) (step-value v (count es + left) used outer (elementRows u es ++ rest) _ (q .0))
+      ∙ ap (λ (t : List ℕ). valueText v ++ (g ++ t)) (spell-elements es u outer left rest behind l (q .1))
+      ∙ rw (used-value v es used, append-assoc (valueText v) (g ++ spaced es left), append-assoc g (spaced es left))
+  spell-elements (list a es) used outer left rest behind l b =
+      let m : suc (count es) + left ≡ suc (count es + left) = omega arith in
+      let n : ℕ = count es + left in
       let q = past-list a es store used behind b in
       let u : ℕ = used + length (elementStore a) in
-      let j : ℕ = at + 1 + elementCount a in
-      let y : Spelt = spelt (elementsText true a) j u in
-      let is-y : y ≡ spell (suc d) rows store (count a) (at + 1) used =
-      sym (spell-suc d rows store (count a) (at + 1) used ∙ spell-elements a d true (at + 1) used _ _ (omega arith) (p .1) (q .0)) in
-      step-list (spell (suc d) rows store) a (count es) first at used _ y (p .0) is-y
-      ∙ ap (joinedTo (gap first ++ enclosed (elementsText true a))) (spell-elements es (suc d) false j u rest behind (omega arith) (p .2) (q .1))
-      ∙ spelt-same (append-assoc (gap first) (enclosed (elementsText true a)) (elementsText false es)
-      ∙ ap (λ (x : List ℕ). gap first ++ (40 ∷ x)) (append-assoc (elementsText true a) (41 ∷ []) (elementsText false es))) (omega arith) (used-list a es used)
+      let more : List ℕ = elementRows u es ++ rest in
+      let g : List ℕ = gap (eqb n 0) in
+      rw (m, append-assoc (elementRows used a) (elementRows u es) rest) (step-list a n used outer (elementRows used a ++ more) (omega arith))
+      ∙ ap (λ (k : ℕ). 40 ∷ spell store (elementRows used a ++ more) used (n ∷ outer) k) (sym (add-zero (count a)))
+      ∙ ap (λ (t : List ℕ). 40 ∷ t) (spell-elements a used (n ∷ outer) 0 more _ (omega arith) (q .0))
+      ∙ ap (λ (t : List ℕ). 40 ∷ (spaced a 0 ++ t)) (spell-close store more u n outer)
+      ∙ ap (λ (t : List ℕ). 40 ∷ (spaced a 0 ++ (41 ∷ (g ++ t)))) (spell-elements es u outer left rest behind (omega arith) (q .1))
+      ∙ rw (used-list a es used, append-assoc (spaced a 0) (41 ∷ (g ++ spaced es left)), append-assoc g (spaced es left))
 
 -- LAW: all of a list is spelt as its text
-pub spell-whole : (es : Elements) → depth es ≤ depthLimit → spellList (listRows es) (listStore es) ≡ listText es
+spell-whole : (es : Elements) → depth es ≤ depthLimit → spellList (listRows es) (listStore es) ≡ listText es
 unfolding spellList listText
 spell-whole es l =
-    ap (λ (p : Spelt). p .text)
-    (spell-suc (depthLimit - 1) (listRows es) (listStore es) (count es) 1 0
-    ∙ spell-elements (listRows es) (listStore es) es (depthLimit - 1) true 1 0 [] [] (omega arith) (sym (append-nil (elementRows 0 es))) (sym (append-nil (listStore es))))
+    let w : spell (listStore es) (elementRows 0 es ++ []) 0 [] (count es + 0) ≡ spaced es 0 ++ spell (listStore es) [] (0 + length (listStore es)) [] 0 =
+    spell-elements (listStore es) es 0 [] 0 [] [] (omega arith) (sym (append-nil (listStore es))) in
+    rw (append-nil (elementRows 0 es), add-zero (count es), spell-end (listStore es) [] (0 + length (listStore es)), append-nil (spaced es 0)) at w ∙ spaced-is es
 
 pub spell-described : (rows store : List ℕ) (es : Elements) → DescribedBy rows store es → depth es ≤ depthLimit → spellList rows store ≡ listText es
 spell-described rows store es t l = rw (t .rows-are, t .store-is) (spell-whole es l)

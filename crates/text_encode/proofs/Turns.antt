@@ -1,15 +1,14 @@
--- Laws of the text that is spelt from rows: what one turn of the loop writes, and what it leaves.
+-- Laws of the text that is spelt from rows: what is written at a row and at the end of a list, and what is still to come.
 use Prim.Native.Nat.{ℕ, zero, suc, _+_, _-_, _*_, _≤_, _<_}
 use mathlib.Core.Path.{_≡_, refl, sym, ap, _∙_}
-use mathlib.Core.Bool.{Bool, true, false, cond}
+use mathlib.Core.Bool.{true, false, cond, not, _&&_}
 use mathlib.Core.List.{List, [], _∷_, _++_, append-assoc}
 use native.Mathlib.Omega.{arith}
 use native.Mathlib.Nat.{add-zero, zero-add}
-use native.Mathlib.Numerals.{sub-one}
-use lib.Dec.{eqb, leb}
+use lib.Dec.{eqb, leb, ltb}
 use lib.ListN.{length, length-append}
 use lib.Seq.{sets, length-sets}
-use borrow.Author.Tests.{eq-eqb, ne-eqb, le-leb, lt-leb, eqb-true, eqb-false, leb-true, leb-false}
+use borrow.Author.Tests.{eq-eqb, ne-eqb, eqb-true, eqb-false, le-leb, lt-leb, lt-ltb, ltb-true, not-true, not-false}
 use Rattle.wire.proofs.Buffers.{sets-more, joined}
 use Rattle.list.specs.declared.Row.{Row}
 use Rattle.list.specs.Kind.{listCode, kindOf}
@@ -18,303 +17,224 @@ use Rattle.list.specs.RowBytes.{rowAt}
 use Rattle.list_rows.specs.Described.{part}
 use Rattle.list_rows.specs.Row.{rowsIn, rowsFrom, stored}
 use Rattle.list_rows.specs.Emit.{storedFrom}
+use Rattle.list_rows.proofs.Rows.{both, front-row, few-left}
 use Rattle.list_rows.proofs.Sizes.{stored-turn}
+use Rattle.list_rows.proofs.Nestings.{next-element, next-end, next-close}
 use Rattle.text.specs.Text.{gap}
 use Rattle.text_encode.specs.declared.emit.Cursor.{Cursor}
-use Rattle.text_encode.specs.Spell.{Spelt, spelt, joinedTo, rowText, spellIn, spell, spellList, cursorOf}
-
--- the text of a list from its opening bracket to its closing one
-abbrev pub enclosed : List ℕ → List ℕ
-enclosed text = 40 ∷ (text ++ (41 ∷ []))
-
-pub spell-shut : (depth : ℕ) (rows store : List ℕ) (n at used : ℕ) → depth ≡ 0 → spell depth rows store n at used ≡ spelt [] at used
-unfolding spell
-spell-shut depth rows store n at used h = rw h
-
-pub spell-down : (depth : ℕ) (rows store : List ℕ) (n at used : ℕ) → (depth ≡ 0 → ⊥)
-    → spell depth rows store n at used ≡ spellIn (spell (depth - 1) rows store) rows store n true at used
-unfolding spell
-spell-down zero rows store n at used h = absurd (h refl)
-spell-down (suc depth) rows store n at used h = rw sub-one
+use Rattle.text_encode.specs.Spell.{rowText, closing, spell, spellList, toCome, opened, closed, valueNext, Underway}
 
 -- the row of a list uses no byte of the store
-pub list-stored : (r : Row) → r .code ≡ listCode → stored r ≡ 0
+list-stored : (r : Row) → r .code ≡ listCode → stored r ≡ 0
 unfolding stored kindOf
 list-stored r h = rw h
 
-module _ (inner : ℕ → ℕ → ℕ → Spelt) (rows store : List ℕ) where
-  pub spell-done : (n : ℕ) (first : Bool) (at used : ℕ) → n ≤ 0 → spellIn inner rows store n first at used ≡ spelt [] at used
-  unfolding spellIn
-  spell-done zero first at used h = refl
-  spell-done (suc n) first at used h = absurd (omega arith)
+module _ (store : List ℕ) where
+  -- a list of which no element is left is closed
+  pub spell-close : (rows : List ℕ) (used n : ℕ) (outer : List ℕ) → spell store rows used (n ∷ outer) 0 ≡ closing n ++ spell store rows used outer n
+  unfolding spell
+  spell-close [] used n outer = next-close _ _ _ n outer
+  spell-close (a ∷ []) used n outer = next-close _ _ _ n outer
+  spell-close (a ∷ b ∷ []) used n outer = next-close _ _ _ n outer
+  spell-close (a ∷ b ∷ c ∷ rows) used n outer = next-close _ _ _ n outer
 
-  spell-more :
-      (n : ℕ) (first : Bool) (at used : ℕ) → 0 < n → (r : Row) → r ≡ rowAt rows (3 * at)
-      → spellIn inner rows store n first at used
-      ≡ cond (leb (rowsIn rows) at) (spelt [] at used)
-      (cond (eqb (r .code) listCode)
-      (joinedTo (gap first ++ enclosed (inner (r .second) (at + 1) used .text))
-      (spellIn inner rows store (n - 1) false (inner (r .second) (at + 1) used .row) (inner (r .second) (at + 1) used .used)))
-      (joinedTo (gap first ++ rowText (part store used (stored r)) r) (spellIn inner rows store (n - 1) false (at + 1) (used + stored r))))
-  unfolding spellIn
-  spell-more zero first at used h r is-r = absurd (omega arith)
-  spell-more (suc n) first at used h r is-r = simp (sub-one, is-r)
+  pub spell-end : (rows : List ℕ) (used : ℕ) → spell store rows used [] 0 ≡ []
+  unfolding spell
+  spell-end [] used = next-end _ _ _
+  spell-end (a ∷ []) used = next-end _ _ _
+  spell-end (a ∷ b ∷ []) used = next-end _ _ _
+  spell-end (a ∷ b ∷ c ∷ rows) used = next-end _ _ _
 
-  pub spell-short : (n : ℕ) (first : Bool) (at used : ℕ) → rowsIn rows ≤ at → spellIn inner rows store n first at used ≡ spelt [] at used
-  unfolding spellIn
-  spell-short zero first at used h = refl
-  spell-short (suc n) first at used h = rw (le-leb (rowsIn rows) at h)
+  spell-few : (rows : List ℕ) (used : ℕ) (outer : List ℕ) (left : ℕ) → length rows < 3 → 0 < left → spell store rows used outer left ≡ []
+  unfolding spell
+  spell-few [] used outer left h more = next-element _ _ _ outer left more
+  spell-few (a ∷ []) used outer left h more = next-element _ _ _ outer left more
+  spell-few (a ∷ b ∷ []) used outer left h more = next-element _ _ _ outer left more
+  spell-few (a ∷ b ∷ c ∷ rows) used outer left h more = absurd (omega arith)
 
-  -- one element
-  module _ (n : ℕ) (first : Bool) (at used : ℕ) (more : 0 < n) (long : at < rowsIn rows) (r : Row) (is-r : r ≡ rowAt rows (3 * at)) where
-    pub spell-list : r .code ≡ listCode → (y : Spelt) → y ≡ inner (r .second) (at + 1) used
-        → spellIn inner rows store n first at used
-        ≡ joinedTo (gap first ++ enclosed (y .text)) (spellIn inner rows store (n - 1) false (y .row) (y .used))
-    spell-list h y is-y = spell-more n first at used more r is-r ∙ rw (lt-leb (rowsIn rows) at long, eq-eqb (r .code) listCode h, is-y)
+  spell-row :
+      (r : Row) (rows : List ℕ) (used : ℕ) (outer : List ℕ) (left : ℕ) → 0 < left
+      → spell store (r .code ∷ r .second ∷ r .third ∷ rows) used outer left
+      ≡ cond (eqb (r .code) listCode) (cond (leb depthLimit (length outer)) [] (40 ∷ spell store rows used ((left - 1) ∷ outer) (r .second)))
+      (rowText (part store used (stored r)) r ++ (gap (eqb (left - 1) 0) ++ spell store rows (used + stored r) outer (left - 1)))
+  unfolding spell
+  spell-row r rows used outer left more = next-element _ _ _ outer left more
 
-    pub spell-value : (r .code ≡ listCode → ⊥) → (t : ℕ) → t ≡ stored r
-        → spellIn inner rows store n first at used
-        ≡ joinedTo (gap first ++ rowText (part store used t) r) (spellIn inner rows store (n - 1) false (at + 1) (used + t))
-    spell-value h t is-t = spell-more n first at used more r is-r ∙ rw (lt-leb (rowsIn rows) at long, ne-eqb (r .code) listCode h, is-t)
+  module _ (r : Row) (rows : List ℕ) (used : ℕ) (outer : List ℕ) (left : ℕ) (more : 0 < left) where
+    pub spell-value : (r .code ≡ listCode → ⊥) → spell store (r .code ∷ r .second ∷ r .third ∷ rows) used outer left
+        ≡ rowText (part store used (stored r)) r ++ (gap (eqb (left - 1) 0) ++ spell store rows (used + stored r) outer (left - 1))
+    spell-value h = spell-row r rows used outer left more ∙ rw (ne-eqb (r .code) listCode h)
 
-  -- the text begins with the gap
-  pub spell-begins :
-      (n : ℕ) (first : Bool) (at used : ℕ) → 0 < n → at < rowsIn rows → length (gap first) ≤ length (spellIn inner rows store n first at used .text)
-  spell-begins n first at used more long = go (eqb (rowAt rows (3 * at) .code) listCode) refl
-    where
-      longer : (x : List ℕ) (q : Spelt) → spellIn inner rows store n first at used ≡ joinedTo (gap first ++ x) q
-          → length (gap first) ≤ length (spellIn inner rows store n first at used .text)
-      longer x q e = omega (arith, ap (λ (p : Spelt). length (p .text)) e, length-append (gap first ++ x) (q .text), length-append (gap first) x)
+    pub spell-list : r .code ≡ listCode → length outer < depthLimit
+        → spell store (r .code ∷ r .second ∷ r .third ∷ rows) used outer left ≡ 40 ∷ spell store rows used ((left - 1) ∷ outer) (r .second)
+    spell-list h l = spell-row r rows used outer left more ∙ rw (eq-eqb (r .code) listCode h, lt-leb depthLimit (length outer) l)
 
-      go : (b : Bool) → eqb (rowAt rows (3 * at) .code) listCode ≡ b → length (gap first) ≤ length (spellIn inner rows store n first at used .text)
-      go true e = longer _ _ (spell-list n first at used more long (rowAt rows (3 * at)) refl (eqb-true _ _ e) _ refl)
-      go false e = longer _ _ (spell-value n first at used more long (rowAt rows (3 * at)) refl (eqb-false _ _ e) _ refl)
+    spell-full : r .code ≡ listCode → depthLimit ≤ length outer → spell store (r .code ∷ r .second ∷ r .third ∷ rows) used outer left ≡ []
+    spell-full h l = spell-row r rows used outer left more ∙ rw (eq-eqb (r .code) listCode h, le-leb depthLimit (length outer) l)
 
--- what is spelt of the rows is used up in the store
-abbrev UsesUp : List ℕ → (ℕ → ℕ → ℕ → Spelt) → Type 0
-UsesUp rows inner =
-    (n at used : ℕ) → inner n at used .used + storedFrom (rowsFrom rows (inner n at used .row)) ≡ used + storedFrom (rowsFrom rows at)
+-- whether a value is next
+module _ (rows : List ℕ) (at left : ℕ) where
+  pub next-is : valueNext rows at left ≡ true → (0 < left) × (at < rowsIn rows) × ((r : Row) → r ≡ rowAt rows (3 * at) → r .code ≡ listCode → ⊥)
+  unfolding valueNext
+  next-is h =
+      let a = both (ltb 0 left) (ltb at (rowsIn rows) && not (eqb (rowAt rows (3 * at) .code) listCode)) h in
+      let b = both (ltb at (rowsIn rows)) (not (eqb (rowAt rows (3 * at) .code) listCode)) (a .1) in
+      let other = eqb-false _ _ (not-true _ (b .1)) in
+      (ltb-true 0 left (a .0), ltb-true at (rowsIn rows) (b .0), λ r is-r e. other (sym (ap (λ (q : Row). q .code) is-r) ∙ e))
 
-module _ (rows store : List ℕ) where
-  uses-in : (inner : ℕ → ℕ → ℕ → Spelt) → UsesUp rows inner → (n : ℕ) (first : Bool) → UsesUp rows (λ _ at used. spellIn inner rows store n first at used)
-  uses-in inner up zero first m at used = rw (spell-done inner rows store 0 first at used (omega arith))
-  uses-in inner up (suc n) first m at used =
-      go (leb (rowsIn rows) at) refl (eqb (r .code) listCode) refl (uses-in inner up n false 0)
-    where
-      r : Row
-      r = rowAt rows (3 * at)
+  pub next-none : valueNext rows at left ≡ false → 0 < left → at < rowsIn rows → rowAt rows (3 * at) .code ≡ listCode
+  unfolding valueNext
+  next-none h more long = eqb-true _ _ (not-false _ (rw (lt-ltb 0 left more, lt-ltb at (rowsIn rows) long) at h))
 
-      go : (a : Bool) → leb (rowsIn rows) at ≡ a → (b : Bool) → eqb (r .code) listCode ≡ b
-          → ((i u : ℕ) → spellIn inner rows store n false i u .used + storedFrom (rowsFrom rows (spellIn inner rows store n false i u .row))
-          ≡ u + storedFrom (rowsFrom rows i))
-          → spellIn inner rows store (suc n) first at used .used + storedFrom (rowsFrom rows (spellIn inner rows store (suc n) first at used .row))
-          ≡ used + storedFrom (rowsFrom rows at)
-      go true e b f next = rw (spell-short inner rows store (suc n) first at used (leb-true (rowsIn rows) at e))
-      go false e true f next =
-          let code : r .code ≡ listCode = eqb-true (r .code) listCode f in
-          let long : at < rowsIn rows = leb-false (rowsIn rows) at e in
-          let y : Spelt = inner (r .second) (at + 1) used in
-          rw (spell-list inner rows store (suc n) first at used (omega arith) long r refl code y refl, sub-one (suc n))
-          (next (y .row) (y .used) ∙ up (r .second) (at + 1) used
-          ∙ sym (ap (λ (z : ℕ). used + z) (stored-turn rows at long r refl ∙ rw (list-stored r code) (zero-add _))))
-      go false e false f next =
-          let long : at < rowsIn rows = leb-false (rowsIn rows) at e in
-          rw (spell-value inner rows store (suc n) first at used (omega arith) long r refl (eqb-false (r .code) listCode f) (stored r) refl, sub-one (suc n))
-          (next (at + 1) (used + stored r) ∙ omega (arith, stored-turn rows at long r refl))
-
-  pub uses-up : (depth : ℕ) → UsesUp rows (spell depth rows store)
-  uses-up zero n at used = rw (spell-shut 0 rows store n at used refl)
-  uses-up (suc depth) n at used =
-      rw (spell-down (suc depth) rows store n at used (λ (h : suc depth ≡ 0). omega arith), sub-one (suc depth))
-      (uses-in (spell depth rows store) (uses-up depth) n true 0 at used)
-
--- THE LOOP: W and K are the text area and the cursor at the end, which before a turn are what `left` elements from the cursor on make of them
-pub record Going (inner : ℕ → ℕ → ℕ → Spelt) (rows store W : List ℕ) (K : Cursor) (text : List ℕ) (left : ℕ) (first : Bool) (at used end : ℕ) : Type 0 where
-  pub written : W ≡ sets text end (spellIn inner rows store left first at used .text)
-  pub cursor : K ≡ cursorOf end (spellIn inner rows store left first at used)
-  pub inside : used + storedFrom (rowsFrom rows at) ≤ length store
-  pub room : end + length (spellIn inner rows store left first at used .text) ≤ length text
-
+-- the part from a to a + b has b bytes
 pub over-again : (a b : ℕ) → a + b - a ≡ b
 over-again a b = omega arith
 
--- the area has the length that it has at the end
-kept :
-    (inner : ℕ → ℕ → ℕ → Spelt) (rows store W : List ℕ) (K : Cursor) (text : List ℕ) (left : ℕ) (first : Bool) (at used end : ℕ)
-    → Going inner rows store W K text left first at used end → length W ≡ length text
-kept inner rows store W K text left first at used end g = ap length (g .written) ∙ length-sets text end (spellIn inner rows store left first at used .text)
+abbrev pub cursor : ℕ → ℕ → ℕ → ℕ → Cursor
+cursor row used end left = record { row = row; used = used; end = end; left = left }
 
--- after a turn: the same of terms that are equal to these, and the area keeps its length
-pub again :
-    {inner : ℕ → ℕ → ℕ → Spelt} {rows store W : List ℕ} {K : Cursor} {text text₁ text′ : List ℕ} {left left₁ : ℕ} {first first₁ first′ : Bool}
-    {at at₁ at′ used used₁ used′ end end₁ end′ size n : ℕ}
-    → Going inner rows store W K text left first at used end → Going inner rows store W K text₁ left₁ first₁ at₁ used₁ end₁
-    → text′ ≡ text₁ → first′ ≡ first₁ → at′ ≡ at₁ → used′ ≡ used₁ → end′ ≡ end₁ → length text ≡ size → left₁ ≤ n
-    → Going inner rows store W K text′ left₁ first′ at′ used′ end′ × (length text′ ≡ size) × (left₁ ≤ n)
-again g h t f a u e s few =
-    (rw (t, f, a, u, e) h, ap length t ∙ sym (kept _ _ _ _ _ _ _ _ _ _ _ h) ∙ kept _ _ _ _ _ _ _ _ _ _ _ g ∙ s, few)
+module _ {rows store whole : List ℕ} {size : ℕ} {text outer : List ℕ} {x : Cursor} (g : Underway rows store whole size text outer x) where
+  -- the area has the length that it has at the end
+  pub whole-size : length whole ≡ length text
+  whole-size = ap length (g .area) ∙ length-sets text (x .end) (toCome rows store outer x)
 
-module _ {inner : ℕ → ℕ → ℕ → Spelt} {rows store W : List ℕ} {K : Cursor} {text : List ℕ} {left : ℕ} {first : Bool} {at used end : ℕ}
-    (g : Going inner rows store W K text left first at used end) where
-  -- nothing is left to be spelt
-  ended : spellIn inner rows store left first at used ≡ spelt [] at used → (text ≡ W) × (record { row = at; used = used; end = end } ≡ K)
-  ended e = (
-    sym (g .written ∙ ap (λ (p : Spelt). sets text end (p .text)) e),
-    sym (g .cursor ∙ ap (cursorOf end) e ∙ ap (λ (z : ℕ). record { row = at; used = used; end = z }) (add-zero end)),
-  )
+  -- nothing is still to come
+  ended : toCome rows store outer x ≡ [] → (text ≡ whole) × (x .end ≡ size)
+  ended e = (sym (g .area ∙ ap (sets text (x .end)) e), sym (g .all ∙ ap (λ (t : List ℕ). x .end + length t) e ∙ add-zero (x .end)))
 
-  pub going-done : left ≤ 0 → (text ≡ W) × (record { row = at; used = used; end = end } ≡ K)
-  going-done h = ended (spell-done inner rows store left first at used h)
-
-  pub going-short : rowsIn rows ≤ at → (text ≡ W) × (record { row = at; used = used; end = end } ≡ K)
-  going-short h = ended (spell-short inner rows store left first at used h)
-
-  -- some text was written, and the rest is that of n elements from another row on
+  -- some text was written, and the rest is to come from another cursor on
   goes :
-      (front next : List ℕ) (n at′ used′ end′ : ℕ)
-      → spellIn inner rows store left first at used ≡ joinedTo front (spellIn inner rows store n false at′ used′)
-      → next ≡ sets text end front → end′ ≡ end + length front → used′ + storedFrom (rowsFrom rows at′) ≤ length store
-      → Going inner rows store W K next n false at′ used′ end′
-  goes front next n at′ used′ end′ e is-next is-end up =
-      let same : length next ≡ length text = ap length is-next ∙ length-sets text end front in
-      let q : Spelt = spellIn inner rows store n false at′ used′ in
-      let size : length (front ++ q .text) ≡ length front + length (q .text) = length-append front (q .text) in
-      let w : end + length (front ++ q .text) ≡ end′ + length (q .text) = omega arith in
-      let all : length (spellIn inner rows store left first at used .text) ≡ length (front ++ q .text) = ap (λ (p : Spelt). length (p .text)) e in
+      (around front next : List ℕ) (y : Cursor) → toCome rows store outer x ≡ front ++ toCome rows store around y → next ≡ sets text (x .end) front
+      → y .end ≡ x .end + length front → y .used + storedFrom (rowsFrom rows (y .row)) ≤ length store → Underway rows store whole size next around y
+  goes around front next y e is-next is-end up =
+      let same : length next ≡ length text = ap length is-next ∙ length-sets text (x .end) front in
+      let t : List ℕ = toCome rows store around y in
+      let w : length (toCome rows store outer x) ≡ length front + length t = ap length e ∙ length-append front t in
       record {
-        written =
-            g .written ∙ ap (λ (p : Spelt). sets text end (p .text)) e ∙ sym (sets-more text front (q .text) end end′ is-end)
-            ∙ ap (λ (l : List ℕ). sets l end′ (q .text)) (sym is-next);
-        cursor = g .cursor ∙ ap (cursorOf end) e ∙ ap (λ (z : ℕ). record { row = q .row; used = q .used; end = z }) w;
+        area = g .area ∙ ap (sets text (x .end)) e ∙ sym (sets-more text front t (x .end) (y .end) is-end) ∙ ap (λ (l : List ℕ). sets l (y .end) t) (sym is-next);
+        all = g .all ∙ omega arith;
+        fits = omega (arith, g .fits);
         inside = up;
-        room = omega (arith, g .room);
       }
 
-  module _ (more : 0 < left) (long : at < rowsIn rows) where
-    pub gap-room : end + length (gap first) ≤ length text
-    gap-room = omega (arith, g .room, spell-begins inner rows store left first at used more long)
+  -- there is room for what comes next
+  room : (front rest : List ℕ) → toCome rows store outer x ≡ front ++ rest → x .end + length front ≤ length text
+  room front rest e = omega (arith, g .all, g .fits, ap length e, length-append front rest)
 
-    module _ (r : Row) (is-r : r ≡ rowAt rows (3 * at)) where
-      pub behind-row : used + stored r + storedFrom (rowsFrom rows (at + 1)) ≤ length store
-      behind-row = omega (arith, g .inside, stored-turn rows at long r is-r)
+  -- THE ELEMENTS ARE ALL WRITTEN
+  module _ (none-left : x .left ≡ 0) where
+    module _ (outermost : outer ≡ []) where
+      pub all-ended : (text ≡ whole) × (x .end ≡ size)
+      all-ended =
+          ended (ap (λ (l : List ℕ). spell store (rowsFrom rows (x .row)) (x .used) l (x .left)) outermost
+          ∙ ap (spell store (rowsFrom rows (x .row)) (x .used) []) none-left ∙ spell-end store (rowsFrom rows (x .row)) (x .used))
 
-      -- AN ELEMENT THAT IS NO LIST
+    module _ (n : ℕ) (around : List ℕ) (is-outer : outer ≡ n ∷ around) where
+      to-close : toCome rows store outer x ≡ closing n ++ spell store (rowsFrom rows (x .row)) (x .used) around n
+      to-close =
+          ap (λ (l : List ℕ). spell store (rowsFrom rows (x .row)) (x .used) l (x .left)) is-outer
+          ∙ ap (spell store (rowsFrom rows (x .row)) (x .used) (n ∷ around)) none-left ∙ spell-close store (rowsFrom rows (x .row)) (x .used) n around
+
+      pub close-room : x .end + length (closing n) ≤ length text
+      close-room = room (closing n) _ to-close
+
+      pub close-goes : (next : List ℕ) (y : Cursor) → next ≡ sets text (x .end) (closing n) → y ≡ closed n x → Underway rows store whole size next around y
+      close-goes next y is-next is-y = rw is-y (goes around (closing n) next (closed n x) to-close is-next refl (g .inside))
+
+  -- AN ELEMENT IS TO COME
+  module _ (more : 0 < x .left) where
+    pub rows-ended : rowsIn rows ≤ x .row → (text ≡ whole) × (x .end ≡ size)
+    rows-ended h = ended (spell-few store (rowsFrom rows (x .row)) (x .used) outer (x .left) (few-left rows (x .row) h) more)
+
+    module _ (long : x .row < rowsIn rows) (r : Row) (is-r : r ≡ rowAt rows (3 * x .row)) where
+      at-row : toCome rows store outer x ≡ spell store (r .code ∷ r .second ∷ r .third ∷ rowsFrom rows (x .row + 1)) (x .used) outer (x .left)
+      at-row = ap (λ (l : List ℕ). spell store l (x .used) outer (x .left)) (front-row rows (x .row) long r is-r)
+
+      pub behind-row : x .used + stored r + storedFrom (rowsFrom rows (x .row + 1)) ≤ length store
+      behind-row = omega (arith, g .inside, stored-turn rows (x .row) long r is-r)
+
+      -- one that is no list
       module _ (single : r .code ≡ listCode → ⊥) (t : ℕ) (is-t : t ≡ stored r) where
-        pub value-room : end + length (gap first) + length (rowText (part store used t) r) ≤ length text
+        valued : toCome rows store outer x ≡ (rowText (part store (x .used) t) r ++ gap (eqb (x .left - 1) 0))
+            ++ spell store (rowsFrom rows (x .row + 1)) (x .used + t) outer (x .left - 1)
+        valued =
+            at-row ∙ spell-value store r (rowsFrom rows (x .row + 1)) (x .used) outer (x .left) more single
+            ∙ ap (λ (k : ℕ). rowText (part store (x .used) k) r
+            ++ (gap (eqb (x .left - 1) 0) ++ spell store (rowsFrom rows (x .row + 1)) (x .used + k) outer (x .left - 1))) (sym is-t)
+            ∙ sym (append-assoc (rowText (part store (x .used) t) r) (gap (eqb (x .left - 1) 0)) _)
+
+        pub value-room : x .end + length (rowText (part store (x .used) t) r) + length (gap (eqb (x .left - 1) 0)) ≤ length text
         value-room =
-            let x : List ℕ = rowText (part store used t) r in
-            let q : Spelt = spellIn inner rows store (left - 1) false (at + 1) (used + t) in
-            omega (
-              arith,
-              g .room,
-              ap (λ (p : Spelt). length (p .text)) (spell-value inner rows store left first at used more long r is-r single t is-t),
-              length-append (gap first ++ x) (q .text),
-              length-append (gap first) x,
-            )
+            let a : List ℕ = rowText (part store (x .used) t) r in
+            let b : List ℕ = gap (eqb (x .left - 1) 0) in
+            let fit : x .end + length (a ++ b) ≤ length text = room (a ++ b) _ valued in
+            omega (arith, length-append a b)
 
-        pub value-goes :
-            (text₁ text₂ : List ℕ) (end₁ end₂ m : ℕ) → text₁ ≡ sets text end (gap first) → end₁ ≡ end + length (gap first) → m ≡ t
-            → text₂ ≡ sets text₁ end₁ (rowText (part store used m) r) → end₂ ≡ end₁ + length (rowText (part store used m) r)
-            → Going inner rows store W K text₂ (left - 1) false (at + 1) (used + t) end₂
-        value-goes text₁ text₂ end₁ end₂ m w₁ e₁ is-m v₂ f₂ =
-            let x : List ℕ = rowText (part store used t) r in
-            let w₂ : text₂ ≡ sets text₁ end₁ x = v₂ ∙ ap (λ (z : ℕ). sets text₁ end₁ (rowText (part store used z) r)) is-m in
-            let e₂ : end₂ ≡ end₁ + length x = f₂ ∙ ap (λ (z : ℕ). end₁ + length (rowText (part store used z) r)) is-m in
-            goes (gap first ++ x) text₂ (left - 1) (at + 1) (used + t) end₂
-            (spell-value inner rows store left first at used more long r is-r single t is-t)
-            (joined text end end₁ (gap first) x e₁ w₁ w₂) (omega (arith, length-append (gap first) x)) (omega (arith, behind-row))
+        -- its text was written
+        module _
+            (text₁ : List ℕ) (end₁ m : ℕ) (is-m : m ≡ t) (w : text₁ ≡ sets text (x .end) (rowText (part store (x .used) m) r))
+            (e : end₁ ≡ x .end + length (rowText (part store (x .used) m) r)) where
+          abbrev a : List ℕ
+          a = rowText (part store (x .used) t) r
 
-      -- A LIST
+          abbrev b : List ℕ
+          b = gap (eqb (x .left - 1) 0)
+
+          w₁ : text₁ ≡ sets text (x .end) a
+          w₁ = w ∙ ap (λ (z : ℕ). sets text (x .end) (rowText (part store (x .used) z) r)) is-m
+
+          e₁ : end₁ ≡ x .end + length a
+          e₁ = e ∙ ap (λ (z : ℕ). x .end + length (rowText (part store (x .used) z) r)) is-m
+
+          pub gap-room : end₁ + length (gap (eqb (x .left - 1) 0)) ≤ length text₁
+          gap-room = omega (arith, value-room, e₁, ap length w₁ ∙ length-sets text (x .end) a)
+
+          pub value-goes :
+              (text₂ : List ℕ) (end₂ : ℕ) → text₂ ≡ sets text₁ end₁ (gap (eqb (x .left - 1) 0)) → end₂ ≡ end₁ + length (gap (eqb (x .left - 1) 0))
+              → Underway rows store whole size text₂ outer (cursor (x .row + 1) (x .used + t) end₂ (x .left - 1))
+          value-goes text₂ end₂ w₂ e₂ =
+              goes outer (a ++ b) text₂ (cursor (x .row + 1) (x .used + t) end₂ (x .left - 1)) valued
+              (joined text (x .end) end₁ a b e₁ w₁ w₂) (omega (arith, e₁, e₂, length-append a b)) (omega (arith, behind-row))
+
+      -- a list
       module _ (nest : r .code ≡ listCode) where
-        list-row : storedFrom (rowsFrom rows at) ≡ storedFrom (rowsFrom rows (at + 1))
-        list-row = omega (arith, stored-turn rows at long r is-r, list-stored r nest)
+        pub full-ended : depthLimit ≤ length outer → (text ≡ whole) × (x .end ≡ size)
+        full-ended h = ended (at-row ∙ spell-full store r (rowsFrom rows (x .row + 1)) (x .used) outer (x .left) more nest h)
 
-        pub list-inside : used + storedFrom (rowsFrom rows (at + 1)) ≤ length store
-        list-inside = omega (arith, g .inside, list-row)
+        module _ (shallow : length outer < depthLimit) where
+          to-open : toCome rows store outer x ≡ 40 ∷ spell store (rowsFrom rows (x .row + 1)) (x .used) ((x .left - 1) ∷ outer) (r .second)
+          to-open = at-row ∙ spell-list store r (rowsFrom rows (x .row + 1)) (x .used) outer (x .left) more nest shallow
 
-        module _ (y : Spelt) (is-y : y ≡ inner (r .second) (at + 1) used) where
-          pub list-room : end + length (gap first) + 1 + length (y .text) + 1 ≤ length text
-          list-room =
-              let q : Spelt = spellIn inner rows store (left - 1) false (y .row) (y .used) in
-              omega (
-                arith,
-                g .room,
-                ap (λ (p : Spelt). length (p .text)) (spell-list inner rows store left first at used more long r is-r nest y is-y),
-                length-append (gap first ++ enclosed (y .text)) (q .text),
-                length-append (gap first) (enclosed (y .text)),
-                length-append (y .text) (41 ∷ []),
-              )
+          pub open-room : x .end < length text
+          open-room = omega (arith, room (40 ∷ []) _ to-open)
 
-          -- Y is where the inner list's elements leave off
-          module _ (end₂ : ℕ) (Y : Cursor) (is-Y : Y ≡ cursorOf end₂ y) where
-            inner-end : Y .end ≡ end₂ + length (y .text)
-            inner-end = ap (λ (z : Cursor). z .end) is-Y
-
-            pub list-close : end₂ ≡ end + length (gap first) + 1 → Y .end < length text
-            list-close e = omega (arith, inner-end, list-room)
-
-            pub list-goes :
-                (text₁ text₂ text₃ text₄ : List ℕ) (end₁ end₄ : ℕ) → text₁ ≡ sets text end (gap first) → end₁ ≡ end + length (gap first)
-                → text₂ ≡ sets text₁ end₁ (40 ∷ []) → end₂ ≡ end₁ + 1 → text₃ ≡ sets text₂ end₂ (y .text)
-                → text₄ ≡ sets text₃ (Y .end) (41 ∷ []) → end₄ ≡ Y .end + 1
-                → y .used + storedFrom (rowsFrom rows (y .row)) ≡ used + storedFrom (rowsFrom rows (at + 1))
-                → Going inner rows store W K text₄ (left - 1) false (Y .row) (Y .used) end₄
-            list-goes text₁ text₂ text₃ text₄ end₁ end₄ w₁ e₁ w₂ e₂ w₃ w₄ e₄ up =
-                let x : List ℕ = enclosed (y .text) in
-                let b : List ℕ = y .text ++ (41 ∷ []) in
-                let v₂ : text₄ ≡ sets text₂ end₂ b = joined text₂ end₂ (Y .end) (y .text) (41 ∷ []) inner-end w₃ w₄ in
-                let v₁ : text₄ ≡ sets text₁ end₁ x = joined text₁ end₁ end₂ (40 ∷ []) b e₂ w₂ v₂ in
-                let past : Y .used + storedFrom (rowsFrom rows (Y .row)) ≡ y .used + storedFrom (rowsFrom rows (y .row)) =
-                ap (λ (z : Cursor). z .used + storedFrom (rowsFrom rows (z .row))) is-Y in
-                goes (gap first ++ x) text₄ (left - 1) (Y .row) (Y .used) end₄
-                (spell-list inner rows store left first at used more long r is-r nest y is-y
-                ∙ ap (λ (z : Cursor). joinedTo (gap first ++ x) (spellIn inner rows store (left - 1) false (z .row) (z .used))) (sym is-Y))
-                (joined text end end₁ (gap first) x e₁ w₁ v₁)
-                (omega (arith, inner-end, length-append (gap first) x, length-append (y .text) (41 ∷ []))) (omega (arith, past, up, list-inside))
-
--- no list may stand here
-pub going-none : (depth : ℕ) (rows store text : List ℕ) (n : ℕ) (x : Cursor) → depth ≡ 0
-    → (text ≡ sets text (x .end) (spell depth rows store n (x .row) (x .used) .text)) × (x ≡ cursorOf (x .end) (spell depth rows store n (x .row) (x .used)))
-going-none depth rows store text n x h =
-    let e : spell depth rows store n (x .row) (x .used) ≡ spelt [] (x .row) (x .used) = spell-shut depth rows store n (x .row) (x .used) h in (
-      sym (ap (λ (p : Spelt). sets text (x .end) (p .text)) e),
-      sym (ap (cursorOf (x .end)) e ∙ ap (λ (z : ℕ). record { row = x .row; used = x .used; end = z }) (add-zero (x .end))),
-    )
-
--- before the first turn
-pub going-start :
-    (depth : ℕ) (rows store text : List ℕ) (n at used end : ℕ) → (depth ≡ 0 → ⊥) → used + storedFrom (rowsFrom rows at) ≤ length store
-    → end + length (spell depth rows store n at used .text) ≤ length text
-    → Going (spell (depth - 1) rows store) rows store (sets text end (spell depth rows store n at used .text)) (cursorOf end (spell depth rows store n at used))
-    text n (eqb n n) at used end
-going-start depth rows store text n at used end h inside room =
-    let e : spell depth rows store n at used ≡ spellIn (spell (depth - 1) rows store) rows store n (eqb n n) at used =
-    spell-down depth rows store n at used h ∙ ap (λ (b : Bool). spellIn (spell (depth - 1) rows store) rows store n b at used) (sym (eq-eqb n n refl)) in
-    record {
-      written = ap (λ (p : Spelt). sets text end (p .text)) e;
-      cursor = ap (cursorOf end) e;
-      inside = inside;
-      room = omega (arith, ap (λ (p : Spelt). length (p .text)) e);
-    }
+          pub open-goes :
+              (next : List ℕ) (y : Cursor) → next ≡ sets text (x .end) (40 ∷ []) → y ≡ opened rows x
+              → Underway rows store whole size next ((x .left - 1) ∷ outer) y
+          open-goes next y is-next is-y =
+              let e : opened rows x ≡ cursor (x .row + 1) (x .used) (x .end + 1) (r .second) =
+              ap (λ (q : Row). cursor (x .row + 1) (x .used) (x .end + 1) (q .second)) (sym is-r) in
+              rw (is-y ∙ e) (goes ((x .left - 1) ∷ outer) (40 ∷ []) next (cursor (x .row + 1) (x .used) (x .end + 1) (r .second)) to-open is-next refl
+              (omega (arith, behind-row, list-stored r nest)))
 
 -- ALL OF A LIST: r is its row
-module _ (rows store : List ℕ) (r : Row) (is-r : r ≡ rowAt rows 0) where
-  all-spelt : spell depthLimit rows store (r .second) 1 0 .text ≡ spellList rows store
-  unfolding spellList
-  all-spelt = ap (λ (x : Row). spell depthLimit rows store (x .second) 1 0 .text) is-r
-
-  pub list-size : length (spell depthLimit rows store (r .second) 1 0 .text) ≡ length (spellList rows store)
-  list-size = ap length all-spelt
-
-  pub list-written :
-      (text next : List ℕ) → next ≡ sets text 0 (spell depthLimit rows store (r .second) 1 0 .text)
-      → (Y : Cursor) → Y ≡ cursorOf 0 (spell depthLimit rows store (r .second) 1 0)
-      → (next ≡ sets text 0 (spellList rows store)) × (Y .end ≡ length (spellList rows store))
-  list-written text next e Y is-Y = (e ∙ ap (sets text 0) all-spelt, omega (arith, ap (λ (z : Cursor). z .end) is-Y, list-size))
-
-pub first-stored : (rows : List ℕ) → storedFrom (rowsFrom rows 1) ≤ storedFrom rows
+first-stored : (rows : List ℕ) → storedFrom (rowsFrom rows 1) ≤ storedFrom rows
 unfolding storedFrom
 first-stored [] = omega arith
 first-stored (a ∷ []) = omega arith
 first-stored (a ∷ b ∷ []) = omega arith
 first-stored (a ∷ b ∷ c ∷ rows) = omega arith
+
+pub started :
+    (rows store text : List ℕ) (r : Row) → r ≡ rowAt rows 0 → storedFrom rows ≤ length store → length (spellList rows store) ≤ length text
+    → Underway rows store (sets text 0 (spellList rows store)) (length (spellList rows store)) text [] (cursor 1 0 0 (r .second))
+unfolding spellList
+started rows store text r is-r there fits =
+    let e : spell store (rowsFrom rows 1) 0 [] (rowAt rows 0 .second) ≡ spell store (rowsFrom rows 1) 0 [] (r .second) =
+    ap (λ (q : Row). spell store (rowsFrom rows 1) 0 [] (q .second)) (sym is-r) in
+    record {
+      area = ap (sets text 0) e;
+      all = ap length e ∙ sym (zero-add _);
+      fits = fits;
+      inside = omega (arith, first-stored rows);
+    }

@@ -13,23 +13,25 @@ use list::LIST_CODE;
 use list::Row;
 use list_rows::row_count;
 use list_rows::stored_by;
-ghost use Prim.Native.Nat.{_+_, _≤_};
+ghost use Prim.Native.Nat.{ℕ, _+_, _≤_, _<_};
 ghost use mathlib.Core.Path.{_≡_};
 ghost use mathlib.Core.Bool.{true};
+ghost use mathlib.Core.List.{List, [], _∷_};
 ghost use lib.ListN.{length};
 ghost use lib.Seq.{sets};
 ghost use Rattle.list.specs.RowBytes.{unpacked};
 ghost use Rattle.list_rows.specs.Described.{valueOf};
-ghost use Rattle.list_rows.specs.Row.{kindStored, stored};
+ghost use Rattle.list_rows.specs.Row.{rowsIn};
 ghost use Rattle.list_rows.specs.Emit.{storedFrom};
 ghost use Rattle.text.specs.Text.{valueText};
-ghost use Rattle.text_encode.specs.Spell.{rowText, spell, spellList, cursorOf, Spellable};
+ghost use Rattle.text_encode.specs.Spell.{rowText, closing, spellList, valueNext, opened, closed, Underway, GoesOn, Stopped};
 
-// Where the writing stands: in the rows, in the store and in the text.
+// Where the writing stands in the rows, in the store and in the text, and how many elements of the innermost open list are still to come.
 pub struct Cursor {
     pub row: usize,
     pub used: usize,
     pub end: usize,
+    pub left: usize,
 }
 
 fn put_kind(text: &mut [u8], at: usize, bytes: &[u8], row: Row, kind: Kind) -> usize
@@ -57,67 +59,110 @@ fn put_value(text: &mut [u8], at: usize, bytes: &[u8], row: Row) -> usize
     }
 }
 
-// The text of a list's n elements from the cursor on, where `depth` lists may stand in one another, this one included.
-fn emit_elements(
-    rows: &[u8],
-    store: &[u8],
-    text: &mut [u8],
-    n: usize,
-    x: Cursor,
-    depth: usize,
-) -> Cursor
-    requires { ⌜ Spellable (now rows) (now store) (now text) n x depth ⌝ }
-    ensures { λ r. ⌜ (now (text .exit) ≡ sets (now (text .entry)) (x .end) (spell depth (unpacked (now (rows .entry))) (now (store .entry)) n (x .row) (x .used) .text)) × (r ≡ cursorOf (x .end) (spell depth (unpacked (now (rows .entry))) (now (store .entry)) n (x .row) (x .used))) ⌝ }
+// Is an element of the innermost open list next that is no list itself?
+fn is_value_next(rows: &[u8], at: usize, left: usize) -> bool
+    ensures { λ r. ⌜ r ≡ valueNext (unpacked (now (rows .entry))) at left ⌝ }
 {
-    if depth == 0 {
-        return x;
+    if left == 0 {
+        return false;
     }
-    let count = row_count(rows);
-    let mut left = n;
+    if row_count(rows) <= at {
+        return false;
+    }
+    let row = list::row_at(rows, at);
+    row.code != LIST_CODE
+}
+
+// The elements up to the next list, or up to the end of the innermost open list; a space stands behind each that is not the last.
+fn put_values(rows: &[u8], store: &[u8], text: &mut [u8], x: Cursor) -> Cursor
+    requires { ⌜ ((whole : List ℕ) × (size : ℕ) × (outer : List ℕ) × Underway (unpacked (now rows)) (now store) whole size (now text) outer x) ⌝ }
+    ensures { λ r. ⌜ GoesOn (unpacked (now (rows .entry))) (now (store .entry)) (now (text .entry)) x (now (text .exit)) r × Stopped (unpacked (now (rows .entry))) x r ⌝ }
+{
     let mut at = x.row;
     let mut used = x.used;
     let mut end = x.end;
-    while 0 < left {
-        if count <= at {
-            return Cursor { row: at, used, end };
-        }
+    let mut left = x.left;
+    while is_value_next(rows, at, left) {
         let row = list::row_at(rows, at);
         at += 1;
-        end = put_gap(text, end, left == n);
-        if row.code == LIST_CODE {
-            end = put_char(text, end, 40);
-            let y = emit_elements(
-                rows,
-                store,
-                text,
-                row.second as usize,
-                Cursor { row: at, used, end },
-                depth - 1,
-            );
-            at = y.row;
-            used = y.used;
-            end = put_char(text, y.end, 41);
-        } else {
-            let size = stored_by(row);
-            end = put_value(text, end, &store[used..used + size], row);
-            used = used + size;
-        }
         left -= 1;
+        let size = stored_by(row);
+        end = put_value(text, end, &store[used..used + size], row);
+        end = put_gap(text, end, left == 0);
+        used = used + size;
     }
-    Cursor { row: at, used, end }
+    Cursor {
+        row: at,
+        used,
+        end,
+        left,
+    }
 }
 
-// All of a list; answers the number of its characters.
+// Opens the list whose row is next.
+fn open_list(rows: &[u8], text: &mut [u8], x: Cursor) -> Cursor
+    requires { ⌜ (x .row < rowsIn (unpacked (now rows))) × (x .end < length (now text)) ⌝ }
+    ensures { λ r. ⌜ (now (text .exit) ≡ sets (now (text .entry)) (x .end) (40 ∷ [])) × (r ≡ opened (unpacked (now (rows .entry))) x) ⌝ }
+{
+    let row = list::row_at(rows, x.row);
+    let end = put_char(text, x.end, 40);
+    Cursor {
+        row: x.row + 1,
+        used: x.used,
+        end,
+        left: row.second as usize,
+    }
+}
+
+// Closes the innermost open list; `left` elements of the list around it are still to come.
+fn close_list(text: &mut [u8], x: Cursor, left: usize) -> Cursor
+    requires { ⌜ x .end + length (closing left) ≤ length (now text) ⌝ }
+    ensures { λ r. ⌜ (now (text .exit) ≡ sets (now (text .entry)) (x .end) (closing left)) × (r ≡ closed left x) ⌝ }
+{
+    let end = put_char(text, x.end, 41);
+    let behind = put_gap(text, end, left == 0);
+    Cursor {
+        row: x.row,
+        used: x.used,
+        end: behind,
+        left,
+    }
+}
+
+// All of a list; answers the number of its characters. `outer` holds how many elements are still to come of each list around the innermost
+// open one, the outermost first.
 pub fn emit_list(rows: &[u8], store: &[u8], text: &mut [u8]) -> usize
     requires { ⌜ (storedFrom (unpacked (now rows)) ≤ length (now store)) × (length (spellList (unpacked (now rows)) (now store)) ≤ length (now text)) ⌝ }
     ensures { λ r. ⌜ (now (text .exit) ≡ sets (now (text .entry)) 0 (spellList (unpacked (now (rows .entry))) (now (store .entry)))) × (r ≡ length (spellList (unpacked (now (rows .entry))) (now (store .entry)))) ⌝ }
 {
-    let row = list::row_at(rows, 0);
-    let x = Cursor {
+    let count = row_count(rows);
+    let first = list::row_at(rows, 0);
+    let mut outer = [0; DEPTH_LIMIT];
+    let mut level = 0;
+    let mut x = Cursor {
         row: 1,
         used: 0,
         end: 0,
+        left: first.second as usize,
     };
-    let y = emit_elements(rows, store, text, row.second as usize, x, DEPTH_LIMIT);
-    y.end
+    loop {
+        let y = put_values(rows, store, text, x);
+        if y.left == 0 {
+            if level == 0 {
+                return y.end;
+            }
+            level -= 1;
+            x = close_list(text, y, outer[level]);
+        } else {
+            if count <= y.row {
+                return y.end;
+            }
+            if level == DEPTH_LIMIT {
+                return y.end;
+            }
+            outer[level] = y.left - 1;
+            level += 1;
+            x = open_list(rows, text, y);
+        }
+    }
 }

@@ -2,17 +2,12 @@
 use list::Kind;
 use list::Row;
 use list_rows::row_count;
+use text_value::is_letter;
 ghost use Prim.Native.Nat.{_+_, _*_, _^_, _<_};
 ghost use mathlib.Core.Path.{_≡_};
 ghost use Rattle.list.specs.RowBytes.{unpacked};
-ghost use Rattle.text.specs.Form.{isLetter, isVocab, isFinite};
+ghost use Rattle.text.specs.Form.{isVocab, isFinite};
 ghost use Rattle.text_encode.specs.Spell.{rowForm, rowsForm};
-
-fn is_letter(c: u8) -> bool
-    ensures { λ r. ⌜ r ≡ isLetter c ⌝ }
-{
-    ((33 <= c) & (c <= 126)) & !((c == 91) | (c == 93))
-}
 
 // One to four letters, lowest first, zeros only above them.
 fn is_vocab(bits: u32) -> bool

@@ -1,23 +1,13 @@
 // Strings, blobs and vocabs.
+use text_value::is_marked;
+use text_value::is_printed;
 ghost use Prim.Native.Nat.{_+_, _≤_, _<_};
 ghost use mathlib.Core.Path.{_≡_};
 ghost use mathlib.Core.Bool.{true};
 ghost use lib.ListN.{length};
 ghost use lib.Seq.{sets};
 ghost use Rattle.digits.specs.Decimal.{decimal};
-ghost use Rattle.text.specs.Text.{gap, isPrinted, isMarked, charText, charsText, stringText, bytesText, blobText, letters, vocabText};
-
-fn is_printed(b: u8) -> bool
-    ensures { λ r. ⌜ r ≡ isPrinted b ⌝ }
-{
-    (32 <= b) & (b <= 126)
-}
-
-fn is_marked(b: u8) -> bool
-    ensures { λ r. ⌜ r ≡ isMarked b ⌝ }
-{
-    (b == 34) | (b == 92)
-}
+ghost use Rattle.text.specs.Text.{gap, charText, charsText, stringText, bytesText, blobText, letters, vocabText};
 
 // A byte with its escape; answers the end of it.
 fn put_char_text(text: &mut [u8], at: usize, b: u8) -> usize

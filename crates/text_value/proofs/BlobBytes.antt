@@ -8,13 +8,13 @@ use native.Mathlib.Numerals.{add-one}
 use native.Mathlib.Nat.{add-zero}
 use lib.Dec.{eqb}
 use lib.ListN.{length, getD, drop}
-use lib.Seq.{drop-drop, getD-drop}
+use lib.Seq.{drop-drop}
 use borrow.Author.Tests.{eqb-true}
 use Rattle.digits.specs.Read.{Read, got, wrong, andRead}
 use Rattle.digits.specs.Decimal.{decimalAt}
 use Rattle.text.specs.Read.{spacedByte, byteAt}
 use Rattle.text_value.specs.Answers.{gapSize, movedBy, Within, AtMost}
-use Rattle.text_value.proofs.Decimals.{inside}
+use Rattle.text_value.proofs.Decimals.{first-char, inside}
 
 -- GAPS
 -- no character more
@@ -47,7 +47,7 @@ module _ (s : List ℕ) (at gap : ℕ) where
 
   byte-is : (first : Bool) → byteAt first (drop at s) ≡ byte-by first (eqb (getD s at 0) 32)
   unfolding byteAt
-  byte-is first = rw (getD-drop, add-zero)
+  byte-is first = rw first-char
 
   gapped : (first space : Bool) → gap ≡ cond first 0 (cond space 1 2) → (gap ≡ 2 → ⊥) → movedBy gap (decimalAt 255 (drop (at + gap) s)) ≡ byte-by first space
   gapped true space e h = rw (e, add-zero at) (moved-none (decimalAt 255 (drop at s)))

@@ -12,6 +12,8 @@ use borrow.Author.Tests.{ltb-true, ltb-false, leb-true, eqb-true}
 use Rattle.digits.specs.Read.{Read, got, wrong, andRead, andDigits}
 use Rattle.digits.specs.Decimal.{isDecimal, moreDecimal, decimalAt}
 use Rattle.digits.specs.Fixed.{fixedAt}
+use Rattle.digits.proofs.Judging.{both-right}
+use Rattle.digits.proofs.Decimals.{digit-bounds}
 use Rattle.list.specs.Tree.{Value}
 use Rattle.text.specs.Text.{isPrinted, isMarked}
 use Rattle.text.specs.Form.{isLetter}
@@ -39,7 +41,7 @@ use Rattle.text.specs.Read.{
   escapeAt,
 }
 use Rattle.text_value.specs.Answers.{Within, AtMost, reach}
-use Rattle.text_value.proofs.Decimals.{clash, both, inside, inside-some, decimal-range}
+use Rattle.text_value.proofs.Decimals.{clash, inside, inside-some}
 use Rattle.text_value.proofs.Fixeds.{fixed-short}
 
 module _ {A : Type 0} where
@@ -61,10 +63,6 @@ pub within-and : {A B : Type 0} (most extra end : ℕ) (r : Read A) (go : A → 
     → ((a : A) (count : ℕ) → 1 ≤ count → Within 0 (extra + count) (go a count)) → extra + most ≤ end → Within 0 most r → Within 0 end (andRead r go)
 within-and most extra end (got a count) go h fits w = within-wider 0 0 (extra + count) end (go a count) (omega arith) (omega arith) (h a count (w .0))
 within-and most extra end wrong go h fits w = tt
-
-pub most-higher : (n m : ℕ) (r : Read ℕ) → n ≤ m → AtMost n r → AtMost m r
-most-higher n m (got x count) h w = omega arith
-most-higher n m wrong h w = tt
 
 -- NUMBERS IN DECIMAL
 more-bounds : (limit value count most : ℕ) (s : List ℕ) → 1 ≤ count → value ≤ most → limit ≤ most
@@ -102,7 +100,7 @@ decimal-bounds limit (c ∷ s) = go (eqb c 48) (isDecimal c) refl
     go true d q = ((omega arith, omega arith), omega arith)
     go false true q =
         let e : 1 + length s ≡ suc (length s) = omega arith in
-        rw e at (more-bounds limit (c - 48) 1 (reach limit) s (omega arith) (omega (arith, decimal-range c q, reach-most limit)) (reach-most limit .1))
+        rw e at (more-bounds limit (c - 48) 1 (reach limit) s (omega arith) (omega (arith, digit-bounds c q, reach-most limit)) (reach-most limit .1))
     go false false q = (tt, tt)
 
 pub decimal-placed :
@@ -181,9 +179,8 @@ halves-within low count sign fraction option.none h = tt
 pub frame-long : (t : List ℕ) → isFloatFrame t ≡ true → 17 < length t
 unfolding isFloatFrame
 frame-long t h =
-    let x = both (eqb (getD t 0 0) 48) (eqb (getD t 3 0) 46 && eqb (getD t 17 0) 112) h in
-    let y = both (eqb (getD t 3 0) 46) (eqb (getD t 17 0) 112) (x .1) in
-    inside t 17 111 (eqb-true (getD t 17 0) 112 (y .1))
+    let x = both-right (eqb (getD t 0 0) 48) (eqb (getD t 3 0) 46 && eqb (getD t 17 0) 112) h in
+    inside t 17 111 (eqb-true (getD t 17 0) 112 (both-right (eqb (getD t 3 0) 46) (eqb (getD t 17 0) 112) x))
 
 float-within : (sign : ℕ) (t : List ℕ) → Within 0 (sign + length t) (floatAt sign t)
 unfolding floatAt

@@ -1,26 +1,28 @@
 -- Laws of numbers in decimal, read digit by digit.
 use Prim.Native.Nat.{ℕ, suc, _+_, _-_, _*_, _≤_, _<_}
 use mathlib.Core.Path.{_≡_, refl, sym, ap, _∙_}
-use mathlib.Core.Bool.{Bool, true, false, cond, _&&_}
+use mathlib.Core.Bool.{Bool, true, false, cond}
 use mathlib.Core.List.{List, _∷_}
 use native.Mathlib.Omega.{arith}
+use native.Mathlib.Nat.{add-zero}
 use lib.Dec.{eqb, leb}
 use lib.ListN.{length, getD, drop, drop-of-length-le, List·getD-eq-default}
-use lib.Seq.{drop-cons}
+use lib.Seq.{drop-cons, getD-drop}
 use borrow.Author.Tests.{le-leb, lt-leb, leb-true, leb-false, eq-eqb, ne-eqb}
 use Rattle.digits.specs.Read.{Read, got, wrong}
 use Rattle.digits.specs.Decimal.{isDecimal, moreDecimal, decimalAt}
+use Rattle.digits.proofs.Decimals.{digit-bounds}
 
 pub clash : {A : Type 0} → false ≡ true → A
 clash h = let z : _≡_ {A = ℕ} 0 1 = cc in absurd (omega arith)
 
-pub both : (a b : Bool) → (a && b) ≡ true → (a ≡ true) × (b ≡ true)
-both true b h = (refl, h)
-both false b h = clash h
-
 -- the element at an offset, in front of the others
 pub drop-next : (s : List ℕ) (i : ℕ) → i < length s → drop i s ≡ getD s i 0 ∷ drop (i + 1) s
 drop-next s i h = let e : suc i ≡ i + 1 = omega arith in rw e at (drop-cons s i 0 h)
+
+-- the first of the elements from an offset on
+pub first-char : (s : List ℕ) (i : ℕ) → getD (drop i s) 0 0 ≡ getD s i 0
+first-char s i = rw (getD-drop, add-zero)
 
 -- past the end stands 0
 pub inside-some : (s : List ℕ) (i : ℕ) → 0 < getD s i 0 → i < length s
@@ -33,9 +35,19 @@ inside-some s i h = go (leb (length s) i) refl
 pub inside : (s : List ℕ) (i k : ℕ) → getD s i 0 ≡ suc k → i < length s
 inside s i k e = inside-some s i (omega (arith, e))
 
-pub decimal-range : (c : ℕ) → isDecimal c ≡ true → (48 ≤ c) × (c ≤ 57)
+pub past-other : (s : List ℕ) (i k : ℕ) → length s ≤ i → false ≡ eqb (getD s i 0) (suc k)
+past-other s i k h = sym (ne-eqb (getD s i 0) (suc k) (λ e. omega (arith, e, List·getD-eq-default s 0 h)))
+
+-- a digit stands inside the text, and past the end stands none
+abbrev pub DigitAt : List ℕ → ℕ → Type 0
+DigitAt s i = (i < length s) × (48 ≤ getD s i 0) × (getD s i 0 ≤ 57)
+
+pub digit-in : (s : List ℕ) (i : ℕ) → isDecimal (getD s i 0) ≡ true → DigitAt s i
+digit-in s i h = let x = digit-bounds (getD s i 0) h in (inside-some s i (omega (arith, x)), x .0, x .1)
+
+pub past-digit : (s : List ℕ) (i : ℕ) → length s ≤ i → false ≡ isDecimal (getD s i 0)
 unfolding isDecimal
-decimal-range c h = let x = both (leb 48 c) (leb c 57) h in (leb-true 48 c (x .0), leb-true c 57 (x .1))
+past-digit s i h = rw (List·getD-eq-default s 0 h)
 
 -- ONE TURN: before it, L is what the digits from offset i on make behind `value`
 more-one : (limit value count c : ℕ) (s : List ℕ)
@@ -60,6 +72,14 @@ module _ (L : Read ℕ) (limit value count : ℕ) (s : List ℕ) (i : ℕ) (inv 
 
   pub more-stop : i < length s → isDecimal (getD s i 0) ≡ false → got value count ≡ L
   more-stop h e = sym (front h ∙ rw e)
+
+  -- no digit more, or no character
+  pub more-halt : isDecimal (getD s i 0) ≡ false → got value count ≡ L
+  more-halt h = go (leb (length s) i) refl
+    where
+      go : (b : Bool) → leb (length s) i ≡ b → got value count ≡ L
+      go true q = more-end (leb-true (length s) i q)
+      go false q = more-stop (leb-false (length s) i q) h
 
   pub more-over : i < length s → isDecimal (getD s i 0) ≡ true → limit < 10 * value + (getD s i 0 - 48) → wrong ≡ L
   more-over h e m = sym (front h ∙ rw (e, lt-leb (10 * value + (getD s i 0 - 48)) limit m))

@@ -13,25 +13,27 @@ use lib.ListN.{length, getD, drop}
 use borrow.Author.Tests.{lt-ltb, le-ltb, le-leb, ltb-true, ltb-false, leb-true, leb-false, ne-eqb}
 use Rattle.digits.specs.Decimal.{isDecimal}
 use Rattle.digits.specs.Fixed.{digitOf, fixedFrom}
+use Rattle.digits.proofs.Judging.{both-left, both-right}
+use Rattle.digits.proofs.Decimals.{digit-bounds}
 use Rattle.text_value.specs.Answers.{octalDigit}
-use Rattle.text_value.proofs.Decimals.{clash, both, decimal-range, drop-next}
+use Rattle.text_value.proofs.Decimals.{clash, drop-next}
 
 -- A DIGIT
-pub digit-decimal : (c : ℕ) → isDecimal c ≡ true → digitOf c ≡ c - 48
+digit-decimal : (c : ℕ) → isDecimal c ≡ true → digitOf c ≡ c - 48
 unfolding isDecimal digitOf
 digit-decimal c h = rw h
 
-pub digit-letter : (c : ℕ) → isDecimal c ≡ false → (leb 97 c && leb c 102) ≡ true → digitOf c ≡ c - 87
+digit-letter : (c : ℕ) → isDecimal c ≡ false → (leb 97 c && leb c 102) ≡ true → digitOf c ≡ c - 87
 unfolding isDecimal digitOf
 digit-letter c h k = rw (h, k)
 
-pub digit-other : (c : ℕ) → isDecimal c ≡ false → (leb 97 c && leb c 102) ≡ false → digitOf c ≡ 16
+digit-other : (c : ℕ) → isDecimal c ≡ false → (leb 97 c && leb c 102) ≡ false → digitOf c ≡ 16
 unfolding isDecimal digitOf
 digit-other c h k = rw (h, k)
 
 -- between two bounds
 pub range : (a b c : ℕ) → (leb a c && leb c b) ≡ true → (a ≤ c) × (c ≤ b)
-range a b c h = let x = both (leb a c) (leb c b) h in (leb-true a c (x .0), leb-true c b (x .1))
+range a b c h = (leb-true a c (both-left (leb a c) (leb c b) h), leb-true c b (both-right (leb a c) (leb c b) h))
 
 pub decimal-in : (c : ℕ) → 48 ≤ c → c ≤ 57 → isDecimal c ≡ true
 unfolding isDecimal
@@ -58,20 +60,21 @@ module _ (L : Option ℕ) (left value : ℕ) (s : List ℕ) (i : ℕ) (inv : L �
   fixed-turn more h d = front more h ∙ rw (lt-ltb (digitOf (getD s i 0)) 16 d)
 
 -- HEXADECIMAL DIGITS
--- the test of a character and its value, without a branch for the letters
+-- the test of a character
 pub hex-test : (c : ℕ) → (isDecimal c || (leb 97 c && leb c 102)) ≡ ltb (digitOf c) 16
 hex-test c = go (isDecimal c) (leb 97 c && leb c 102) refl refl
   where
     go : (b d : Bool) → isDecimal c ≡ b → (leb 97 c && leb c 102) ≡ d → (b || d) ≡ ltb (digitOf c) 16
-    go true d p q = sym (lt-ltb (digitOf c) 16 (rw (digit-decimal c p) (omega (arith, decimal-range c p))))
+    go true d p q = sym (lt-ltb (digitOf c) 16 (rw (digit-decimal c p) (omega (arith, digit-bounds c p))))
     go false true p q = sym (lt-ltb (digitOf c) 16 (rw (digit-letter c p q) (omega (arith, range 97 102 c q))))
     go false false p q = sym (le-ltb (digitOf c) 16 (rw (digit-other c p q) (omega arith)))
 
-hex-value : (c : ℕ) → digitOf c < 16 → c % 16 + 9 * (c / 64) ≡ digitOf c
+-- its value without a branch for the letters: the low half of the character, and 9 more for a letter
+pub hex-value : (c : ℕ) → digitOf c < 16 → c % 16 + 9 * (c / 64) ≡ digitOf c
 hex-value c h = go (isDecimal c) (leb 97 c && leb c 102) refl refl
   where
     go : (b d : Bool) → isDecimal c ≡ b → (leb 97 c && leb c 102) ≡ d → c % 16 + 9 * (c / 64) ≡ digitOf c
-    go true d p q = rw (digit-decimal c p) (omega (arith, decimal-range c p))
+    go true d p q = rw (digit-decimal c p) (omega (arith, digit-bounds c p))
     go false true p q = rw (digit-letter c p q) (omega (arith, range 97 102 c q))
     go false false p q = absurd (omega (arith, digit-other c p q, h))
 
@@ -124,7 +127,7 @@ pub octal-other : (c : ℕ) → (leb 48 c && leb c 55) ≡ false → octalDigit 
 octal-other c h = rw (le-ltb (digitOf c) 8 (high (isDecimal c) (leb 97 c && leb c 102) refl refl))
   where
     high : (b d : Bool) → isDecimal c ≡ b → (leb 97 c && leb c 102) ≡ d → 8 ≤ digitOf c
-    high true d p q = rw (digit-decimal c p) (omega (arith, decimal-range c p, out-of 48 55 c h (decimal-range c p .0)))
+    high true d p q = rw (digit-decimal c p) (omega (arith, digit-bounds c p, out-of 48 55 c h (digit-bounds c p .0)))
     high false true p q = rw (digit-letter c p q) (omega (arith, range 97 102 c q))
     high false false p q = rw (digit-other c p q) (omega arith)
 

@@ -7,7 +7,6 @@ use mathlib.Core.Option.{Option, some}
 use mathlib.Core.Option as option
 use native.Mathlib.Omega.{arith}
 use native.Mathlib.Numerals.{add-one}
-use native.Mathlib.Nat.{add-zero}
 use lib.Dec.{eqb}
 use lib.ListN.{length, getD, drop, length-drop, drop-of-length-le}
 use lib.Seq.{drop-drop, getD-drop}
@@ -35,6 +34,7 @@ use Rattle.text.specs.Read.{
 use Rattle.text_value.specs.declared.WordRead.{WordRead}
 use Rattle.text_value.specs.declared.WordRead.the-variants as word
 use Rattle.text_value.specs.Answers.{wordOf}
+use Rattle.text_value.proofs.Decimals.{first-char}
 use Rattle.text_value.proofs.Bounds.{frame-long}
 
 -- BEHIND A MINUS
@@ -47,28 +47,25 @@ minus-scale-is zero count h = absurd (h refl)
 minus-scale-is (suc n) count h = rw add-one
 
 module _ (s : List ℕ) (at : ℕ) where
-  here : getD (drop at s) 0 0 ≡ getD s at 0
-  here = rw (getD-drop, add-zero)
-
   pub int-minus : getD s at 0 ≡ 45 → andRead (decimalAt 2147483648 (drop (at + 1) s)) minusBits ≡ intAt (drop at s)
   unfolding intAt
-  int-minus e = sym (rw (here, eq-eqb (getD s at 0) 45 e, drop-drop))
+  int-minus e = sym (rw (first-char, eq-eqb (getD s at 0) 45 e, drop-drop))
 
   pub int-plain : (getD s at 0 ≡ 45 → ⊥) → decimalAt 2147483647 (drop at s) ≡ intAt (drop at s)
   unfolding intAt
-  int-plain e = sym (rw (here, ne-eqb (getD s at 0) 45 e))
+  int-plain e = sym (rw (first-char, ne-eqb (getD s at 0) 45 e))
 
   pub scale-plus : getD s at 0 ≡ 43 → andRead (decimalAt 1023 (drop (at + 1) s)) plusScale ≡ scaleAt (drop at s)
   unfolding scaleAt
-  scale-plus e = sym (rw (here, eq-eqb (getD s at 0) 43 e, drop-drop))
+  scale-plus e = sym (rw (first-char, eq-eqb (getD s at 0) 43 e, drop-drop))
 
   pub scale-minus : (getD s at 0 ≡ 43 → ⊥) → getD s at 0 ≡ 45 → andRead (decimalAt 1022 (drop (at + 1) s)) minusScale ≡ scaleAt (drop at s)
   unfolding scaleAt
-  scale-minus n e = sym (rw (here, ne-eqb (getD s at 0) 43 n, eq-eqb (getD s at 0) 45 e, drop-drop))
+  scale-minus n e = sym (rw (first-char, ne-eqb (getD s at 0) 43 n, eq-eqb (getD s at 0) 45 e, drop-drop))
 
   pub scale-none : (getD s at 0 ≡ 43 → ⊥) → (getD s at 0 ≡ 45 → ⊥) → wrong ≡ scaleAt (drop at s)
   unfolding scaleAt
-  scale-none n e = sym (rw (here, ne-eqb (getD s at 0) 43 n, ne-eqb (getD s at 0) 45 e))
+  scale-none n e = sym (rw (first-char, ne-eqb (getD s at 0) 43 n, ne-eqb (getD s at 0) 45 e))
 
 -- A FLOAT OF ITS PARTS
 pub float-is : (sign lead fraction low : ℕ) (r : WordRead) (bits count : ℕ) (o : Option ℕ) → r ≡ word.Is bits count → o ≡ exponentFrom lead fraction low bits
@@ -79,7 +76,7 @@ float-is sign lead fraction low r bits count o e f = rw (e, f)
 module _ (sign : ℕ) (s : List ℕ) (at : ℕ) where
   frame : isFloatFrame (drop at s) ≡ (eqb (getD s at 0) 48 && (eqb (getD s (at + 3) 0) 46 && eqb (getD s (at + 17) 0) 112))
   unfolding isFloatFrame
-  frame = rw (here s at, getD-drop at s 3 0, getD-drop at s 17 0)
+  frame = rw (first-char s at, getD-drop at s 3 0, getD-drop at s 17 0)
 
   pub float-short : length s - at < 18 → wrong ≡ floatAt sign (drop at s)
   unfolding floatAt

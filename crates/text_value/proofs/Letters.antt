@@ -9,7 +9,6 @@ use native.Mathlib.Omega.{arith}
 use native.Mathlib.Nat.{add-zero, mul-add, mul-comm, mul-assoc, mul-le-mul-right}
 use lib.Dec.{eqb, ltb, leb}
 use lib.ListN.{length, getD, drop, drop-of-length-le, length-drop}
-use lib.Seq.{getD-drop}
 use borrow.Author.Tests.{eq-eqb, ne-eqb, eqb-true, eqb-false, leb-true, leb-false, lt-ltb, le-ltb}
 use Rattle.wire.specs.Number.{leValue}
 use Rattle.digits.specs.Read.{Read, got, wrong, andRead, andDigits}
@@ -17,13 +16,10 @@ use Rattle.digits.specs.Fixed.{fixedAt}
 use Rattle.text.specs.Text.{isPrinted, isMarked}
 use Rattle.text.specs.Form.{isLetter}
 use Rattle.text.specs.Read.{lettersAt, vocabBits, vocabAt, octalByte, escapeAt}
+use Rattle.text.proofs.Vocabs.{letter-bounds}
 use Rattle.text_value.specs.Answers.{octalDigit}
-use Rattle.text_value.proofs.Decimals.{clash, both, drop-next}
+use Rattle.text_value.proofs.Decimals.{clash, drop-next, first-char}
 use Rattle.text_value.proofs.Fixeds.{power-most, three-digits, fixed-short}
-
-letter-small : (c : ℕ) → isLetter c ≡ true → c ≤ 126
-unfolding isLetter
-letter-small c h = leb-true c 126 (both (leb 33 c) (leb c 126) (both (leb 33 c && leb c 126) (not (eqb c 91 || eqb c 93)) h .0) .1)
 
 -- LETTERS
 letters-none : (most : ℕ) → lettersAt most [] ≡ wrong
@@ -124,7 +120,7 @@ pub letter-next : (c unit i : ℕ) → i ≤ 4 → (eqb i 4 || not (isLetter c))
     → (i < 4) × (isLetter c ≡ true) × (c ≤ 126) × (c * unit ≤ 126 * unit) × (unit ≤ 16777216)
 letter-next c unit i m t e =
     let n = letter-taken i c m t in
-    let small = letter-small c (n .1) in
+    let small = letter-bounds c (n .1) .1 in
     (n .0, n .1, small, mul-le-mul-right unit small, rw e (power-most 256 i 3 (omega arith) (omega arith)))
 
 pub vocab-past : (s : List ℕ) (at : ℕ) → length s ≤ at → wrong ≡ vocabAt (drop at s)
@@ -160,20 +156,17 @@ octal-good b z h p = let m = octal-low b h in go z (sym (rw (m .0, lt-ltb b 256 
     go false e = e
 
 module _ (s : List ℕ) (at : ℕ) where
-  here : getD (drop at s) 0 0 ≡ getD s at 0
-  here = rw (getD-drop, add-zero)
-
   pub escape-past : length s ≤ at → wrong ≡ escapeAt (drop at s)
   unfolding escapeAt isMarked
   escape-past h = sym (rw (drop-of-length-le s h, fixed-short 3 0 [] (omega arith)))
 
   pub escape-marked : isMarked (getD s at 0) ≡ true → got (getD s at 0) 2 ≡ escapeAt (drop at s)
   unfolding escapeAt
-  escape-marked e = sym (rw (here, e))
+  escape-marked e = sym (rw (first-char, e))
 
   digits : isMarked (getD s at 0) ≡ false → escapeAt (drop at s) ≡ andDigits (fixedAt 8 3 (drop at s)) octalByte
   unfolding escapeAt
-  digits e = rw (here, e)
+  digits e = rw (first-char, e)
 
   pub escape-short : isMarked (getD s at 0) ≡ false → length s - at < 3 → wrong ≡ escapeAt (drop at s)
   escape-short e h = sym (digits e ∙ rw (fixed-short 3 0 (drop at s) (omega (arith, length-drop at s))))

@@ -12,6 +12,7 @@ ghost use Rattle.text_value.specs.Answers.{wordOf, octalDigit, Within, A
 // The most letters of a vocab.
 const MOST: usize = 4;
 
+// A character that a vocab may have.
 pub fn is_letter(c: u8) -> bool
     ensures { λ r. ⌜ r ≡ isLetter c ⌝ }
 {
@@ -49,13 +50,15 @@ pub fn vocab_at(text: &[u8], at: usize) -> WordRead
     WordRead::Wrong
 }
 
-fn is_printed(c: u8) -> bool
+// A byte that a string's text may show.
+pub fn is_printed(c: u8) -> bool
     ensures { λ r. ⌜ r ≡ isPrinted c ⌝ }
 {
     (32 <= c) & (c <= 126)
 }
 
-fn is_marked(c: u8) -> bool
+// A quote or a backslash.
+pub fn is_marked(c: u8) -> bool
     ensures { λ r. ⌜ r ≡ isMarked c ⌝ }
 {
     (c == 34) | (c == 92)

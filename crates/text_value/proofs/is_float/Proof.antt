@@ -1,17 +1,13 @@
 -- `text_value::is_float` meets its contract: past the end stands 0.
-use mathlib.Core.Path.{_≡_}
-use native.Mathlib.Omega.{arith}
 use borrow.Author.Needs.{needs}
 use Prim.Native.Nat.{_+_}
-use lib.ListN.{getD, List·getD-eq-default}
+use native.Mathlib.Omega.{arith}
+use Rattle.text_value.proofs.Decimals.{past-other}
 use Rattle.text_value.proofs.is_float.Statement.{statement}
 use Rattle.text_value.proofs.is_float.Tie as tie
 
 returns-2 : tie.Need-returns-2
-returns-2 c =
-    let a = c .before .args in
-    let past : getD (a .text .now) (a .at + 1) 0 ≡ 0 = List·getD-eq-default (a .text .now) 0 (omega arith) in
-    rw past
+returns-2 c = past-other (c .before .args .text .now) (c .before .args .at + 1) 119 (omega arith)
 
 pub is-float-spec : {M : Type 1} → statement M
 is-float-spec =

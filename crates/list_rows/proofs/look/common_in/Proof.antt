@@ -30,7 +30,7 @@ loop-again c =
     let c₄ = c .before .before .before .before in
     let x = c₄ .loop in
     common-turn _ (unpacked (c₄ .before .before .before .args .rows .now)) (x .i) (x .left) (x .seen) (x .inv)
-    _ (c .before .before .before .loop-test .taken) (omega arith) (rw (c .before .number-at .ensures) at (c .common-code .ensures))
+    _ (c .before .before .before .loop-test .taken) (omega arith) (rw (c .before .row-at .ensures) at (c .common-code .ensures))
 
 returns-2 : tie.Need-returns-2 Inv-loop μ-loop
 returns-2 c = sym (c .before .loop .inv ∙ common-none _ _ _ (c .loop-test .left))
@@ -44,7 +44,6 @@ common-in-spec =
     (λ c κs. search needs)
     loop-holds
     returns
-    (λ c. search needs)
     (λ c κs. search needs)
     (λ c κs. search needs)
     (λ c. search needs)

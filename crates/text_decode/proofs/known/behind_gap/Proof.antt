@@ -1,20 +1,18 @@
 -- `text_decode::known::behind_gap` meets its contract.
-use borrow.Author.Tests.{eq-eqb, ne-eqb}
 use borrow.Author.Needs.{needs}
 use Rattle.text_decode.proofs.known.behind_gap.Statement.{statement}
 use Rattle.text_decode.proofs.known.behind_gap.Tie as tie
 
 returns : tie.Need-returns
-returns c = rw (eq-eqb _ _ (c .if1 .taken))
+returns c = rw (c .if1 .taken)
 
 returns-2 : tie.Need-returns-2
-returns-2 c = rw (ne-eqb _ _ (c .if1 .left))
+returns-2 c = rw (c .if1 .left)
 
 pub behind-gap-spec : {M : Type 1} → statement M
 behind-gap-spec =
     tie.close
     (tie.spec
-    (λ c. search needs)
-    (λ c. search needs)
     returns
+    (λ c. search needs)
     returns-2)

@@ -1,9 +1,8 @@
 -- `text_decode::known::is_digit` meets its contract.
-use mathlib.Core.Path.{_≡_, refl}
-use native.Mathlib.Omega.{arith}
-use lib.ListN.{getD, List·getD-eq-default}
-use Rattle.digits.specs.Decimal.{isDecimal}
+use mathlib.Core.Path.{refl}
 use borrow.Author.Needs.{needs}
+use Rattle.digits.specs.Decimal.{isDecimal}
+use Rattle.text_value.proofs.Decimals.{past-digit}
 use Rattle.text_decode.proofs.known.is_digit.Statement.{statement}
 use Rattle.text_decode.proofs.known.is_digit.Tie as tie
 
@@ -12,11 +11,7 @@ unfolding isDecimal
 returns c = refl
 
 returns-2 : tie.Need-returns-2
-unfolding isDecimal
-returns-2 c =
-    let a = c .before .args in
-    let past : getD (a .text .now) (a .at) 0 ≡ 0 = List·getD-eq-default (a .text .now) 0 (omega arith) in
-    rw past
+returns-2 c = past-digit (c .before .args .text .now) (c .before .args .at) (c .if1 .left)
 
 pub is-digit-spec : {M : Type 1} → statement M
 is-digit-spec =

@@ -5,9 +5,9 @@ use mathlib.Core.Path.{_≡_, refl, sym, _∙_}
 use native.Mathlib.Omega.{arith}
 use lib.ListN.{length, drop}
 use Rattle.digits.specs.Decimal.{moreDecimal}
-use Rattle.text_value.proofs.Decimals.{decimal-zero}
+use Rattle.text_value.proofs.Decimals.{decimal-zero, more-halt}
 use Rattle.text_decode.specs.Pieces.{knownDecimal}
-use Rattle.text_decode.proofs.Knowns.{known-as, decimal-inside, decimal-start, digit-turn, digits-done}
+use Rattle.text_decode.proofs.Knowns.{known-as, decimal-inside, decimal-start, digit-turn}
 use borrow.Author.Needs.{needs}
 use Rattle.text_decode.proofs.known.known_decimal.Statement.{statement}
 use Rattle.text_decode.proofs.known.known_decimal.Tie as tie
@@ -104,8 +104,8 @@ returns-2 c =
     let l = c .before .before in
     let x = l .loop in
     let b = l .before .before .before .before in
-    let done = digits-done _ (2 ^ 32 - 1) (x .bits) _ (b .args .text .now) (x .end) (x .inv .0) (sym (c .before .is-digit .ensures) ∙ c .if2 .left) in
-    known-as _ (x .bits) (x .end - b .args .at) (b .args .at) _ done refl (omega (arith, x .inv .1))
+    let done = more-halt _ (2 ^ 32 - 1) (x .bits) _ (b .args .text .now) (x .end) (x .inv .0) (sym (c .before .is-digit .ensures) ∙ c .if2 .left) in
+    known-as _ (x .bits) (x .end - b .args .at) (b .args .at) _ (sym done) refl (omega (arith, x .inv .1))
 
 pub known-decimal-spec : {M : Type 1} → statement M
 known-decimal-spec =

@@ -1,15 +1,16 @@
 -- `text_value::digit::byte_decimal_at` meets its contract: each test says which case of the definition it is.
-use Prim.Native.Nat.{ℕ, _+_, _-_, _≤_, _<_}
+use Prim.Native.Nat.{ℕ, _+_, _-_, _<_}
 use mathlib.Core.Path.{_≡_, sym, _∙_}
 use mathlib.Core.Bool.{true}
 use mathlib.Core.List.{List}
 use native.Mathlib.Omega.{arith}
 use borrow.Author.Needs.{needs}
 use borrow.Author.Tests.{not-true, not-false}
-use lib.ListN.{length, getD}
+use lib.ListN.{getD}
 use Rattle.digits.specs.Decimal.{isDecimal}
 use Rattle.text_value.proofs.Bounds.{decimal-placed}
-use Rattle.text_value.proofs.ByteDigits.{digit-in, followed, first-none, one-digit, two-digits, too-large, three-digits}
+use Rattle.text_value.proofs.Decimals.{DigitAt, digit-in}
+use Rattle.text_value.proofs.ByteDigits.{followed, first-none, one-digit, two-digits, too-large, three-digits}
 use Rattle.text_value.proofs.digit.byte_decimal_at.Statement.{statement}
 use Rattle.text_value.proofs.digit.byte_decimal_at.Tie as tie
 
@@ -32,19 +33,16 @@ three : (c : tie.Else3)
     → isDecimal (getD (S (c .before .before .before .before .before .before)) (A (c .before .before .before .before .before .before) + 2) 0) ≡ true
 three c = sym (c .before .is-digit3 .ensures) ∙ not-false _ (c .if3 .left)
 
-abbrev In : List ℕ → ℕ → Type 0
-In s i = (i < length s) × (48 ≤ getD s i 0) × (getD s i 0 ≤ 57)
-
-in-one : (c : tie.Else1) → In (S c) (A c)
+in-one : (c : tie.Else1) → DigitAt (S c) (A c)
 in-one c = digit-in (S c) (A c) (one c)
 
-in-two : (c : tie.Else2) → In (S (c .before .before .before)) (A (c .before .before .before)) × In (S (c .before .before .before)) (A (c .before .before .before) + 1)
+in-two : (c : tie.Else2) → DigitAt (S (c .before .before .before)) (A (c .before .before .before)) × DigitAt (S (c .before .before .before)) (A (c .before .before .before) + 1)
 in-two c = let k = c .before .before .before in (in-one k, digit-in (S k) (A k + 1) (two c .1))
 
 in-three : (c : tie.Else3)
-    → In (S (c .before .before .before .before .before .before)) (A (c .before .before .before .before .before .before))
-    × In (S (c .before .before .before .before .before .before)) (A (c .before .before .before .before .before .before) + 1)
-    × In (S (c .before .before .before .before .before .before)) (A (c .before .before .before .before .before .before) + 2)
+    → DigitAt (S (c .before .before .before .before .before .before)) (A (c .before .before .before .before .before .before))
+    × DigitAt (S (c .before .before .before .before .before .before)) (A (c .before .before .before .before .before .before) + 1)
+    × DigitAt (S (c .before .before .before .before .before .before)) (A (c .before .before .before .before .before .before) + 2)
 in-three c =
     let x = in-two (c .before .before .before) in
     let k = c .before .before .before .before .before .before in

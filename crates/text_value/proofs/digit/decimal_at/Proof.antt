@@ -2,7 +2,8 @@
 use mathlib.Core.Path.{sym, _∙_}
 use native.Mathlib.Omega.{arith}
 use borrow.Author.Needs.{needs}
-use Rattle.text_value.proofs.Decimals.{decimal-range, decimal-past, decimal-zero, decimal-more, decimal-none}
+use Rattle.digits.proofs.Decimals.{digit-bounds}
+use Rattle.text_value.proofs.Decimals.{decimal-past, decimal-zero, decimal-more, decimal-none}
 use Rattle.text_value.proofs.Bounds.{decimal-placed}
 use Rattle.text_value.proofs.digit.decimal_at.Statement.{statement}
 use Rattle.text_value.proofs.digit.decimal_at.Tie as tie
@@ -18,10 +19,10 @@ returns-2 c =
     decimal-placed (a .limit) (a .text .now) (a .at) _ (omega arith) (decimal-zero (a .limit) (a .text .now) (a .at) (omega arith) (c .if2 .taken))
 
 sub-more-decimal : tie.Need-sub-more-decimal
-sub-more-decimal c = omega (arith, decimal-range _ (sym (c .before .is-decimal .ensures) ∙ c .if3 .taken))
+sub-more-decimal c = omega (arith, digit-bounds _ (sym (c .before .is-decimal .ensures) ∙ c .if3 .taken))
 
 cast-more-decimal : tie.Need-cast-more-decimal
-cast-more-decimal c = omega (arith, decimal-range _ (sym (c .before .is-decimal .ensures) ∙ c .if3 .taken))
+cast-more-decimal c = omega (arith, digit-bounds _ (sym (c .before .is-decimal .ensures) ∙ c .if3 .taken))
 
 returns-3 : tie.Need-returns-3
 returns-3 c =

@@ -1,6 +1,6 @@
 -- `text_value::digit::is_digit` meets its contract.
 use borrow.Author.Needs.{needs}
-use Rattle.text_value.proofs.ByteDigits.{past-digit}
+use Rattle.text_value.proofs.Decimals.{past-digit}
 use Rattle.text_value.proofs.digit.is_digit.Statement.{statement}
 use Rattle.text_value.proofs.digit.is_digit.Tie as tie
 

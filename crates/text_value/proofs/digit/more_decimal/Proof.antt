@@ -7,7 +7,8 @@ use borrow.Author.Tests.{not-true, not-false}
 use Prim.Native.Nat.{suc, _+_, _-_, _≤_, _<_, _^_}
 use lib.ListN.{length, drop}
 use Rattle.digits.specs.Decimal.{moreDecimal}
-use Rattle.text_value.proofs.Decimals.{decimal-range, more-end, more-stop, more-over, more-turn}
+use Rattle.digits.proofs.Decimals.{digit-bounds}
+use Rattle.text_value.proofs.Decimals.{more-end, more-stop, more-over, more-turn}
 use Rattle.text_value.proofs.digit.more_decimal.Statement.{statement}
 use Rattle.text_value.proofs.digit.more_decimal.Tie as tie
 
@@ -28,13 +29,13 @@ returns c =
     more-stop _ _ (x .value) _ s (x .i) (x .inv .0) (c .before .before .before .loop-test .taken) (sym (c .before .is-decimal .ensures) ∙ not-true _ (c .if1 .taken))
 
 sub-value : tie.Need-sub-value Inv-loop μ-loop
-sub-value c = omega (arith, decimal-range _ (sym (c .before .is-decimal .ensures) ∙ not-false _ (c .if1 .left)))
+sub-value c = omega (arith, digit-bounds _ (sym (c .before .is-decimal .ensures) ∙ not-false _ (c .if1 .left)))
 
 cast-value : tie.Need-cast-value Inv-loop μ-loop
-cast-value c = omega (arith, decimal-range _ (sym (c .before .is-decimal .ensures) ∙ not-false _ (c .if1 .left)))
+cast-value c = omega (arith, digit-bounds _ (sym (c .before .is-decimal .ensures) ∙ not-false _ (c .if1 .left)))
 
 add-value : tie.Need-add-value Inv-loop μ-loop
-add-value c = omega (arith, decimal-range _ (sym (c .before .is-decimal .ensures) ∙ not-false _ (c .if1 .left)))
+add-value c = omega (arith, digit-bounds _ (sym (c .before .is-decimal .ensures) ∙ not-false _ (c .if1 .left)))
 
 returns-2 : tie.Need-returns-2 Inv-loop μ-loop
 returns-2 c =

@@ -2,7 +2,6 @@
 use mathlib.Core.Path.{sym, ap, _∙_}
 use native.Mathlib.Omega.{arith}
 use borrow.Author.Needs.{needs}
-use mathlib.Core.Option as option
 use Rattle.text_value.specs.Answers.{partOf}
 use Rattle.text_value.proofs.Floats.{float-is}
 use Rattle.text_value.proofs.float.float_of.Statement.{statement}
