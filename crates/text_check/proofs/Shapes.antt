@@ -206,6 +206,15 @@ module _ (s : List ℕ) (at : ℕ) (long : at < length s) where
   token-close first e =
       (ap (λ (l : List ℕ). andRead (tokenAt first l) shaped) (sym (front ∙ ap (λ (k : ℕ). k ∷ drop (at + 1) s) e)), (omega arith, omega arith))
 
+  pub token-open :
+      (first : Bool) (x : Read Shape) → x ≡ cond first (got opened 1) wrong → getD s at 0 ≡ 40
+      → (x ≡ andRead (tokenAt first (drop at s)) shaped) × Within at (length s) x
+  unfolding tokenAt elementAt
+  token-open true x k e =
+      (k ∙ ap (λ (l : List ℕ). andRead (tokenAt true l) shaped) (sym (front ∙ ap (λ (c : ℕ). c ∷ drop (at + 1) s) e)), rw k (omega arith, omega arith))
+  token-open false x k e =
+      (k ∙ ap (λ (l : List ℕ). andRead (tokenAt false l) shaped) (sym (front ∙ ap (λ (c : ℕ). c ∷ drop (at + 1) s) e)), rw k tt)
+
   abbrev token-by : Bool → Bool → Read Token
   token-by first space = cond first (elementAt (getD s at 0 ∷ drop (at + 1) s)) (cond space (andRead (elementAt (drop (at + 1) s)) spaced) wrong)
 

@@ -15,10 +15,10 @@ ghost use mathlib.Core.Path.{_≡_};
 ghost use mathlib.Core.Bool.{cond, _||_};
 ghost use lib.Dec.{eqb};
 ghost use lib.ListN.{drop, length};
-ghost use Rattle.digits.specs.Read.{andRead};
+ghost use Rattle.digits.specs.Read.{got, wrong, andRead};
 ghost use Rattle.text.specs.Tokens.{elementAt, tokenAt};
 ghost use Rattle.text_value.specs.Answers.{wordOf, Within};
-ghost use Rattle.text_check.specs.Answers.{atMost, spanOf, shaped, tokenOf, countOf, opensOf, spanToken, vocabToken, numberToken, behindGap};
+ghost use Rattle.text_check.specs.Answers.{atMost, opened, spanOf, shaped, tokenOf, countOf, opensOf, spanToken, vocabToken, numberToken, behindGap};
 
 pub enum TokenRead {
     Open(usize),
@@ -185,6 +185,16 @@ fn moved(read: TokenRead, gap: usize) -> TokenRead
     }
 }
 
+// An opening bracket without a space before it.
+fn opening(first: bool) -> TokenRead
+    ensures { λ r. ⌜ tokenOf r ≡ cond first (got opened 1) wrong ⌝ }
+{
+    if first {
+        return TokenRead::Open(1);
+    }
+    TokenRead::Wrong
+}
+
 // The token at an offset, with the space before it; `first` where an element that comes would be its list's first.
 pub fn token_at(text: &[u8], at: usize, first: bool) -> TokenRead
     ensures { λ r. ⌜ (tokenOf r ≡ andRead (tokenAt first (drop at (now (text .entry)))) shaped) × Within at (length (now (text .entry))) (tokenOf r) ⌝ }
@@ -195,6 +205,9 @@ pub fn token_at(text: &[u8], at: usize, first: bool) -> TokenRead
     let c = text[at];
     if c == 41 {
         return TokenRead::Close;
+    }
+    if c == 40 {
+        return opening(first);
     }
     if !may_begin(c, first) {
         return TokenRead::Wrong;

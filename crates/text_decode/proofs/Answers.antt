@@ -209,3 +209,14 @@ module _ (text rows store : List ℕ) (r : roomy rows store ≡ true) where
 
       from : (es : Elements) × TextOf text es × (depth es ≤ depthLimit) × (listLimit < length (listBytes es)) → refusedWith 28
       from x = read-refused 28 (ap judged (text-read text (x .0) (x .1)) ∙ long-refused (x .0) (x .2) (x .3))
+
+-- LAW: 20 exactly where the area of the rows or of the store is too short
+pub no-room : (text rows store : List ℕ) → (decodingOf text rows store ≡ outcome (refused 20) rows store) ↔ (roomy rows store ≡ false)
+no-room text rows store = (λ h. to (roomy rows store) refl h, decoding-short text rows store)
+  where
+    to : (b : Bool) → roomy rows store ≡ b → decodingOf text rows store ≡ outcome (refused 20) rows store → roomy rows store ≡ false
+    to false r h = r
+    to true r h =
+        let x = refused-list text rows store r 20 (λ e. omega arith) (refused-read text rows store r 20 h) in
+        ⊎-elim (λ (u : (20 ≡ 27) × (depthLimit < depth (x .0))). absurd (omega arith))
+        (λ (u : (20 ≡ 28) × (depth (x .0) ≤ depthLimit) × (listLimit < length (listBytes (x .0)))). absurd (omega arith)) (x .2)

@@ -1,9 +1,10 @@
 -- Laws of writing a text piece by piece, from the front, and of writing digits from the back.
-use Prim.Native.Nat.{ℕ, suc, _+_, _-_, _/_, _%_, _^_, _≤_, _<_}
+use Prim.Native.Nat.{ℕ, suc, _+_, _-_, _*_, _/_, _%_, _^_, _≤_, _<_}
 use mathlib.Core.Path.{_≡_, refl, sym, ap, _∙_}
 use mathlib.Core.Logic.{inl, inr}
 use mathlib.Core.List.{List, [], _∷_, _++_}
 use native.Mathlib.Omega.{arith}
+use lib.Arith.{mod-mul}
 use lib.ListN.{length, set, length-append}
 use lib.Seq.{sets, set-comm, length-sets}
 use borrow.Author.Tests.{lt-ltb, le-ltb}
@@ -115,6 +116,23 @@ digit-first text at base i n h e =
     let k : i ≡ suc (i - 1) = omega arith in
     ap (λ (w : ℕ). sets text at (fixed base w n)) k ∙ last-first text at base (i - 1) n
     ∙ ap (λ (x : ℕ). sets (set text (at + (i - 1)) x) at (fixed base (i - 1) (n / base))) (sym e)
+
+-- the last two in base 10
+pub digits-first :
+    (text : List ℕ) (at i n : ℕ) {d e : ℕ} → 1 < i → d ≡ glyph (n % 100 % 10) → e ≡ glyph (n % 100 / 10)
+    → sets text at (fixed 10 i n) ≡ sets (set (set text (at + (i - 1)) d) (at + (i - 2)) e) at (fixed 10 (i - 2) (n / 100))
+digits-first text at i n {d} h is-d is-e =
+    let pair : n % 100 ≡ (n / 10 % 10) * 10 + n % 10 = mod-mul n {m = 10} {c = 10} (omega arith) (omega arith) in
+    let a : n % 100 % 10 ≡ n % 10 = omega arith in
+    let b : n % 100 / 10 ≡ n / 10 % 10 = omega arith in
+    let q : n / 10 / 10 ≡ n / 100 = omega arith in
+    let k : i - 1 - 1 ≡ i - 2 = omega arith in
+    digit-first text at 10 i n (omega arith) (is-d ∙ ap glyph a)
+    ∙ rw (k, q) at (digit-first (set text (at + (i - 1)) d) at 10 (i - 1) (n / 10) (omega arith) (is-e ∙ ap glyph b))
+
+-- the only one
+pub digit-only : (text : List ℕ) (at i n : ℕ) {d : ℕ} → i ≡ 1 → d ≡ glyph (n % 10) → sets text at (fixed 10 i n) ≡ set text at d
+digit-only text at i n h e = rw h (ap (set text at) (sym e))
 
 pub digit-none : (text : List ℕ) (at base i n : ℕ) → i ≤ 0 → sets text at (fixed base i n) ≡ text
 digit-none text at base i n h = let z : i ≡ 0 = omega arith in rw z

@@ -71,16 +71,22 @@ fn large_count(n: u32) -> usize
     10
 }
 
+// Two digits at a time, since the next division waits for the one before.
 fn put_digits(text: &mut [u8], at: usize, count: usize, n: u32)
     requires { ⌜ at + count ≤ length (now text) ⌝ }
     ensures { λ _. ⌜ now (text .exit) ≡ sets (now (text .entry)) at (fixed 10 count n) ⌝ }
 {
     let mut left = n;
     let mut i = count;
-    while 0 < i {
-        i -= 1;
-        text[at + i] = digit(left % 10);
-        left = left / 10;
+    while 1 < i {
+        let pair = left % 100;
+        text[at + (i - 1)] = digit(pair % 10);
+        text[at + (i - 2)] = digit(pair / 10);
+        left = left / 100;
+        i -= 2;
+    }
+    if i == 1 {
+        text[at] = digit(left % 10);
     }
 }
 

@@ -1,7 +1,7 @@
 -- Laws of numbers of a fixed number of digits, read digit by digit.
 use Prim.Native.Nat.{ℕ, zero, suc, _+_, _-_, _*_, _/_, _%_, _^_, _≤_, _<_}
 use mathlib.Core.Path.{_≡_, refl, sym, ap, _∙_}
-use mathlib.Core.Bool.{Bool, true, false, cond, _&&_, _||_}
+use mathlib.Core.Bool.{Bool, true, false, cond, not, _&&_, _||_}
 use mathlib.Core.List.{List, [], _∷_}
 use mathlib.Core.Option.{Option, some}
 use mathlib.Core.Option as option
@@ -10,7 +10,7 @@ use native.Mathlib.Numerals.{add-one}
 use native.Mathlib.Nat.{pow-succ', pow-le-pow-right}
 use lib.Dec.{eqb, ltb, leb}
 use lib.ListN.{length, getD, drop}
-use borrow.Author.Tests.{lt-ltb, le-ltb, le-leb, ltb-true, ltb-false, leb-true, leb-false, ne-eqb}
+use borrow.Author.Tests.{lt-ltb, le-ltb, le-leb, ltb-true, ltb-false, leb-true, leb-false, eq-eqb, ne-eqb}
 use Rattle.digits.specs.Decimal.{isDecimal}
 use Rattle.digits.specs.Fixed.{digitOf, fixedFrom}
 use Rattle.digits.proofs.Judging.{both-left, both-right}
@@ -130,6 +130,38 @@ octal-other c h = rw (le-ltb (digitOf c) 8 (high (isDecimal c) (leb 97 c && leb 
     high true d p q = rw (digit-decimal c p) (omega (arith, digit-bounds c p, out-of 48 55 c h (digit-bounds c p .0)))
     high false true p q = rw (digit-letter c p q) (omega (arith, range 97 102 c q))
     high false false p q = rw (digit-other c p q) (omega arith)
+
+-- the test of a character
+octal-test : (c : ℕ) (p : Bool) → p ≡ (leb 48 c && leb c 55) → eqb (octalDigit c) 8 ≡ not p
+octal-test c true e = ne-eqb (octalDigit c) 8 (λ k. omega (arith, range 48 55 c (sym e), octal-is c (sym e), k))
+octal-test c false e = eq-eqb (octalDigit c) 8 (octal-other c (sym e))
+
+-- its value without a subtraction
+octal-value : (c : ℕ) → (leb 48 c && leb c 55) ≡ true → c % 8 ≡ octalDigit c
+octal-value c h = omega (arith, range 48 55 c h, octal-is c h)
+
+-- three characters, and the test of each
+module _ (a b d : ℕ) (p q r : Bool) (is-p : p ≡ (leb 48 a && leb a 55)) (is-q : q ≡ (leb 48 b && leb b 55)) (is-r : r ≡ (leb 48 d && leb d 55)) where
+  tested : (eqb (octalDigit a) 8 || (eqb (octalDigit b) 8 || eqb (octalDigit d) 8)) ≡ not (p && (q && r))
+  tested = rw (octal-test a p is-p, octal-test b q is-q, octal-test d r is-r) (go p q r)
+    where
+      go : (x y z : Bool) → (not x || (not y || not z)) ≡ not (x && (y && z))
+      go true true z = refl
+      go true false z = refl
+      go false y z = refl
+
+  pub octals-other : (p && (q && r)) ≡ false → (eqb (octalDigit a) 8 || (eqb (octalDigit b) 8 || eqb (octalDigit d) 8)) ≡ true
+  octals-other h = tested ∙ ap not h
+
+  pub octals-are : (p && (q && r)) ≡ true
+      → ((eqb (octalDigit a) 8 || (eqb (octalDigit b) 8 || eqb (octalDigit d) 8)) ≡ false)
+      × (64 * (a % 8) + 8 * (b % 8) + d % 8 ≡ 64 * octalDigit a + 8 * octalDigit b + octalDigit d)
+  octals-are h =
+      let k = both-right p (q && r) h in
+      let x = octal-value a (sym is-p ∙ both-left p (q && r) h) in
+      let y = octal-value b (sym is-q ∙ both-left q r k) in
+      let z = octal-value d (sym is-r ∙ both-right q r k) in
+      (tested ∙ ap not h, rw (x, y, z))
 
 one-digit : (width value c : ℕ) (s : List ℕ)
     → fixedFrom 8 (suc width) value (c ∷ s) ≡ cond (eqb (octalDigit c) 8) option.none (fixedFrom 8 width (8 * value + octalDigit c) s)

@@ -3,11 +3,12 @@ use crate::WordRead;
 ghost use Prim.Native.Nat.{_+_, _≤_};
 ghost use mathlib.Core.Path.{_≡_};
 ghost use mathlib.Core.Bool.{not, _&&_};
+ghost use lib.Dec.{leb};
 ghost use lib.ListN.{drop, length};
 ghost use Rattle.text.specs.Text.{isPrinted, isMarked};
 ghost use Rattle.text.specs.Form.{isLetter};
 ghost use Rattle.text.specs.Read.{vocabAt, escapeAt, octalByte};
-ghost use Rattle.text_value.specs.Answers.{wordOf, octalDigit, Within, AtMost};
+ghost use Rattle.text_value.specs.Answers.{wordOf, Within, AtMost};
 
 // The most letters of a vocab.
 const MOST: usize = 4;
@@ -84,14 +85,11 @@ fn octal_byte(b: u32) -> WordRead
     WordRead::Is { bits: b, count: 4 }
 }
 
-// A digit below 8, or 8.
-fn octal_digit(c: u8) -> u32
-    ensures { λ r. ⌜ (r ≡ octalDigit c) × (r ≤ 8) ⌝ }
+// An octal digit.
+fn is_octal(c: u8) -> bool
+    ensures { λ r. ⌜ r ≡ (leb 48 c && leb c 55) ⌝ }
 {
-    if (48 <= c) & (c <= 55) {
-        return (c - 48) as u32;
-    }
-    8
+    (48 <= c) & (c <= 55)
 }
 
 // The byte of an escape, behind its backslash, which is counted.
@@ -111,11 +109,10 @@ pub fn escape_at(text: &[u8], at: usize) -> WordRead
     if text.len() - at < 3 {
         return WordRead::Wrong;
     }
-    let a = octal_digit(c);
-    let b = octal_digit(text[at + 1]);
-    let d = octal_digit(text[at + 2]);
-    if (a == 8) | ((b == 8) | (d == 8)) {
-        return WordRead::Wrong;
+    let b = text[at + 1];
+    let d = text[at + 2];
+    if is_octal(c) & (is_octal(b) & is_octal(d)) {
+        return octal_byte(64 * (c % 8) as u32 + 8 * (b % 8) as u32 + (d % 8) as u32);
     }
-    octal_byte(64 * a + 8 * b + d)
+    WordRead::Wrong
 }
