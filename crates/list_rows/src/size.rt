@@ -10,7 +10,7 @@ use list::LIST_LIMIT;
 use list::NUMBER;
 use list::Row;
 use list::TERMINATOR;
-ghost use Prim.Native.Nat.{_+_, _≤_, _<_, _^_};
+ghost use Prim.Native.Nat.{_≤_, _^_};
 ghost use mathlib.Core.Path.{_≡_};
 ghost use Rattle.list.specs.Kind.{kindOf};
 ghost use Rattle.list.specs.Limits.{listLimit};

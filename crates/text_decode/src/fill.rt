@@ -8,7 +8,7 @@ use list::NUMBER;
 use list::ROW;
 use numbers::put_u32;
 use numbers::u32_at;
-ghost use Prim.Native.Nat.{_+_, _*_, _≤_, _<_};
+ghost use Prim.Native.Nat.{_+_, _≤_, _<_};
 ghost use mathlib.Core.Path.{_≡_};
 ghost use lib.ListN.{length};
 ghost use Rattle.text_decode.specs.Pieces.{Countable, countedOne, closedAt, aroundAt, behindSpace, Judged, Filled};

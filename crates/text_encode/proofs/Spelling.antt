@@ -16,7 +16,6 @@ use Rattle.list.specs.Tree.{Value, Elements, int, vocab, float, str, blob, none
 use Rattle.list.specs.Rows.{valueStore, elementStore, valueRow, elementRows, listRows, listStore}
 use Rattle.list.specs.RowBytes.{row, rowAt}
 use Rattle.list.proofs.Codes.{code-low}
-use Rattle.list_rows.specs.Described.{part}
 use Rattle.list_rows.specs.Judge.{nested, depth}
 use Rattle.list_rows.specs.Row.{stored}
 use Rattle.list_rows.proofs.Rows.{part-is}

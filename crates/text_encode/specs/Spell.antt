@@ -1,6 +1,6 @@
 -- Internal: the text of a list from its rows, one after the other. Of the innermost open list `left` elements are still to come, and `outer`
 -- says the same of the lists around it, the inner before the outer. Public contracts do not cite this file.
-use Prim.Native.Nat.{ℕ, _+_, _*_, _≤_, _<_}
+use Prim.Native.Nat.{ℕ, _+_, _*_, _≤_}
 use mathlib.Core.Path.{_≡_}
 use mathlib.Core.Bool.{Bool, true, false, cond, not, _&&_}
 use mathlib.Core.List.{List, [], _∷_, _++_}

@@ -3,7 +3,6 @@ use list::Kind;
 use list::Row;
 use list_rows::row_count;
 use text_value::is_letter;
-ghost use Prim.Native.Nat.{_+_, _*_, _^_, _<_};
 ghost use mathlib.Core.Path.{_≡_};
 ghost use Rattle.list.specs.RowBytes.{unpacked};
 ghost use Rattle.text.specs.Form.{isVocab, isFinite};

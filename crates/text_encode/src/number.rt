@@ -7,7 +7,7 @@ ghost use mathlib.Core.Path.{_≡_};
 ghost use mathlib.Core.List.{[], _∷_};
 ghost use lib.ListN.{length};
 ghost use lib.Seq.{sets};
-ghost use Rattle.text.specs.Text.{intText, exponentOf, fractionOf, signText, scaleText, scaleOf, leadOf, frameText, floatText};
+ghost use Rattle.text.specs.Text.{intText, exponentOf, signText, scaleText, scaleOf, leadOf, frameText, floatText};
 
 // One character; answers the end of it.
 pub fn put_char(text: &mut [u8], at: usize, c: u8) -> usize

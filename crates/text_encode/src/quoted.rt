@@ -1,7 +1,7 @@
 // Strings, blobs and vocabs.
 use text_value::is_marked;
 use text_value::is_printed;
-ghost use Prim.Native.Nat.{_+_, _≤_, _<_};
+ghost use Prim.Native.Nat.{_+_, _≤_};
 ghost use mathlib.Core.Path.{_≡_};
 ghost use mathlib.Core.Bool.{true};
 ghost use lib.ListN.{length};

@@ -1,14 +1,12 @@
 -- `text_encode::emit::emit_list` meets its contract.
 -- The invariant: the writing is underway from the cursor on, and `outer` holds the lists around the innermost open one.
-use Prim.Native.Nat.{ℕ, _+_, _-_, _*_, _≤_, _<_}
+use Prim.Native.Nat.{_+_, _-_, _*_, _≤_, _<_}
 use mathlib.Core.Path.{_≡_, refl, sym, ap, _∙_}
-use mathlib.Core.List.{List, []}
 use native.Mathlib.Omega.{arith}
 use native.Mathlib.Numerals.{add-one}
 use lib.ListN.{length, length-set}
 use lib.Seq.{sets, length-sets}
 use borrow.Author.Needs.{needs}
-use Rattle.list.specs.declared.Row.{Row}
 use Rattle.list.specs.Limits.{depthLimit}
 use Rattle.list.specs.RowBytes.{unpacked}
 use Rattle.list_rows.specs.Row.{rowsIn}

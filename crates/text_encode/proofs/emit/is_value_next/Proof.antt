@@ -1,5 +1,4 @@
 -- `text_encode::emit::is_value_next` meets its contract: each test is the definition's.
-use mathlib.Core.Path.{_∙_}
 use native.Mathlib.Omega.{arith}
 use borrow.Author.Needs.{needs}
 use borrow.Author.Tests.{le-ltb, lt-ltb}

@@ -1,5 +1,4 @@
 -- `text_encode::emit::open_list` meets its contract.
-use mathlib.Core.Path.{_∙_}
 use native.Mathlib.Omega.{arith}
 use borrow.Author.Needs.{needs}
 use Rattle.list.proofs.RowBytes.{unpacked-length}
