@@ -18,7 +18,7 @@ twice() {
     done
 }
 
-# expect NAME: standard input has the lines that the program must print for $room/in
+# expect CASE: standard input has the lines that the program must print for $room/in
 expect() {
     cat >"$room/want"
     "$program" <"$room/in" >"$room/got"

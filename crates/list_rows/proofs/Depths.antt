@@ -17,12 +17,12 @@ use Rattle.list_rows.specs.Nesting.{deepFrom, tooDeep}
 use Rattle.list_rows.proofs.Deepening.{deep-close, deep-value, deep-deeper, deep-list}
 
 -- a value's row is no list's
-past-value : (v : Value) (used : ℕ) (rest outer : List ℕ) (left : ℕ) → 0 < left → deepFrom (valueRow used v ++ rest) outer left ≡ deepFrom rest outer (left - 1)
-past-value (int n) used rest outer left h = deep-value _ _ _ rest outer left h (λ e. omega arith)
-past-value (vocab n) used rest outer left h = deep-value _ _ _ rest outer left h (λ e. omega arith)
-past-value (float low high) used rest outer left h = deep-value _ _ _ rest outer left h (λ e. omega arith)
-past-value (str bs) used rest outer left h = deep-value _ _ _ rest outer left h (λ e. omega arith)
-past-value (blob bs) used rest outer left h = deep-value _ _ _ rest outer left h (λ e. omega arith)
+deep-past-value : (v : Value) (used : ℕ) (rest outer : List ℕ) (left : ℕ) → 0 < left → deepFrom (valueRow used v ++ rest) outer left ≡ deepFrom rest outer (left - 1)
+deep-past-value (int n) used rest outer left h = deep-value _ _ _ rest outer left h (λ e. omega arith)
+deep-past-value (vocab n) used rest outer left h = deep-value _ _ _ rest outer left h (λ e. omega arith)
+deep-past-value (float low high) used rest outer left h = deep-value _ _ _ rest outer left h (λ e. omega arith)
+deep-past-value (str bs) used rest outer left h = deep-value _ _ _ rest outer left h (λ e. omega arith)
+deep-past-value (blob bs) used rest outer left h = deep-value _ _ _ rest outer left h (λ e. omega arith)
 
 -- one of two is above the limit where the greater is
 either : (limit m a b : ℕ) (x : Bool) → cond (ltb limit (suc m + a)) true (cond (ltb limit (m + b)) true x) ≡ cond (ltb limit (m + max (suc a) b)) true x
@@ -41,7 +41,7 @@ deep-elements (value v es) used rest outer left h =
     let u : ℕ = used + length (valueStore v) in
     let e : suc (count es) + left - 1 ≡ count es + left = omega arith in
     ap (λ (l : List ℕ). deepFrom l outer (suc (count es) + left)) (append-assoc (valueRow used v) (elementRows u es) rest)
-    ∙ past-value v used (elementRows u es ++ rest) outer (suc (count es) + left) (omega arith) ∙ rw e (deep-elements es u rest outer left h)
+    ∙ deep-past-value v used (elementRows u es ++ rest) outer (suc (count es) + left) (omega arith) ∙ rw e (deep-elements es u rest outer left h)
 deep-elements (list a es) used rest outer left h =
     go (leb depthLimit (suc (length outer))) refl (λ g. deep-elements a used (elementRows u es ++ rest) ((count es + left) ∷ outer) 0 g) (deep-elements es u rest outer left h)
   where

@@ -10,7 +10,8 @@ use Rattle.list.specs.Limits.{depthLimit}
 use Rattle.list.specs.RowBytes.{rowAt}
 use Rattle.list_rows.specs.Row.{rowsFrom}
 
--- where an element is to come it is next; where none is, the innermost list is closed, and so on, up to the end of the outermost
+-- what is next: where an element is to come, `element` of the lists around it and of how many come behind it; else `close` of how many are still
+-- to come around the list that ends here and of what is next there, or `end` behind the outermost list
 unfoldable pub nextIn : {A : Type 0} → (ℕ → A → A) → A → (List ℕ → ℕ → A) → List ℕ → ℕ → A
 nextIn close end element [] zero = end
 nextIn close end element [] (suc left) = element [] left
@@ -27,5 +28,6 @@ deepFrom (a ∷ b ∷ c ∷ rows) outer left =
     (λ around n. cond (eqb a listCode) (cond (leb depthLimit (suc (length around))) true (deepFrom rows (n ∷ around) b)) (deepFrom rows around n))
     outer left
 
+-- the same of all rows of a list, whose first is its own
 unfoldable pub tooDeep : List ℕ → Bool
 tooDeep rows = deepFrom (rowsFrom rows 1) [] (rowAt rows 0 .second)

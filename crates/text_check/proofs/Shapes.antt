@@ -4,11 +4,9 @@ use mathlib.Core.Path.{_≡_, refl, sym, ap, _∙_}
 use mathlib.Core.Bool.{Bool, true, false, cond, _||_}
 use mathlib.Core.List.{List, [], _∷_}
 use native.Mathlib.Omega.{arith}
-use native.Mathlib.Numerals.{add-one}
 use native.Mathlib.Nat.{add-zero}
 use lib.Dec.{eqb}
 use lib.ListN.{length, getD, drop, length-append, drop-of-length-le}
-use lib.Seq.{drop-cons}
 use borrow.Author.Tests.{ne-eqb}
 use Rattle.digits.specs.Read.{Read, got, wrong, andRead}
 use Rattle.list.specs.Strings.{terminator}
@@ -20,6 +18,7 @@ use Rattle.text_value.specs.declared.WordRead.{WordRead}
 use Rattle.text_value.specs.declared.NumberRead.{NumberRead}
 use Rattle.text_value.specs.declared.NumberRead.the-variants as number
 use Rattle.text_value.specs.Answers.{wordOf, numberOf, gapSize, movedBy, Within}
+use Rattle.text_value.proofs.Decimals.{drop-next}
 use Rattle.text_value.proofs.BlobBytes.{moved-none, moved-one}
 use Rattle.text_check.specs.declared.span.Span.{Span}
 use Rattle.text_check.specs.declared.token.TokenRead.{TokenRead}
@@ -149,12 +148,13 @@ gap-shape gap read.Wrong (got token m) k e = absurd (let z : _≡_ {A = ℕ} 0 1
 gap-shape gap read.Wrong wrong k e = refl
 
 module _ (s : List ℕ) (at : ℕ) (long : at < length s) where
-  front : drop at s ≡ getD s at 0 ∷ drop (at + 1) s
-  front = drop-cons s at 0 long ∙ ap (λ (n : ℕ). getD s at 0 ∷ drop n s) (sym (add-one at))
+  -- the characters from the first on, which is known
+  front-of : (c : ℕ) → getD s at 0 ≡ c → drop at s ≡ c ∷ drop (at + 1) s
+  front-of c e = drop-next s at long ∙ ap (λ (k : ℕ). k ∷ drop (at + 1) s) e
 
   -- an element whose first character is known
   front-is : (c : ℕ) → getD s at 0 ≡ c → andRead (elementAt (c ∷ drop (at + 1) s)) shaped ≡ andRead (elementAt (drop at s)) shaped
-  front-is c e = ap (λ (l : List ℕ). andRead (elementAt l) shaped) (sym (front ∙ ap (λ (k : ℕ). k ∷ drop (at + 1) s) e))
+  front-is c e = ap (λ (l : List ℕ). andRead (elementAt l) shaped) (sym (front-of c e))
 
   pub element-open : getD s at 0 ≡ 40 → (got opened 1 ≡ andRead (elementAt (drop at s)) shaped) × Within at (length s) (got opened 1)
   unfolding elementAt
@@ -195,7 +195,7 @@ module _ (s : List ℕ) (at : ℕ) (long : at < length s) where
       → x ≡ numberToken r → numberOf r ≡ numberAt (drop at s) → Within at (length s) (numberOf r)
       → (x ≡ andRead (elementAt (drop at s)) shaped) × Within at (length s) x
   element-number r x a b d f h g w = (
-    h ∙ number-shape r ∙ ap (λ (q : Read Value). andRead (andRead q itemToken) shaped) (g ∙ ap numberAt front)
+    h ∙ number-shape r ∙ ap (λ (q : Read Value). andRead (andRead q itemToken) shaped) (g ∙ ap numberAt (drop-next s at long))
         ∙ valued-is (getD s at 0) (numberAt (getD s at 0 ∷ drop (at + 1) s)) refl a (value-number (getD s at 0) (drop (at + 1) s) b d f),
     rw h (number-within at (length s) r w),
   )
@@ -204,27 +204,27 @@ module _ (s : List ℕ) (at : ℕ) (long : at < length s) where
   pub token-close : (first : Bool) → getD s at 0 ≡ 41 → (got closed 1 ≡ andRead (tokenAt first (drop at s)) shaped) × Within at (length s) (got closed 1)
   unfolding tokenAt
   token-close first e =
-      (ap (λ (l : List ℕ). andRead (tokenAt first l) shaped) (sym (front ∙ ap (λ (k : ℕ). k ∷ drop (at + 1) s) e)), (omega arith, omega arith))
+      (ap (λ (l : List ℕ). andRead (tokenAt first l) shaped) (sym (front-of 41 e)), (omega arith, omega arith))
 
   pub token-open :
       (first : Bool) (x : Read Shape) → x ≡ cond first (got opened 1) wrong → getD s at 0 ≡ 40
       → (x ≡ andRead (tokenAt first (drop at s)) shaped) × Within at (length s) x
   unfolding tokenAt elementAt
   token-open true x k e =
-      (k ∙ ap (λ (l : List ℕ). andRead (tokenAt true l) shaped) (sym (front ∙ ap (λ (c : ℕ). c ∷ drop (at + 1) s) e)), rw k (omega arith, omega arith))
+      (k ∙ ap (λ (l : List ℕ). andRead (tokenAt true l) shaped) (sym (front-of 40 e)), rw k (omega arith, omega arith))
   token-open false x k e =
-      (k ∙ ap (λ (l : List ℕ). andRead (tokenAt false l) shaped) (sym (front ∙ ap (λ (c : ℕ). c ∷ drop (at + 1) s) e)), rw k tt)
+      (k ∙ ap (λ (l : List ℕ). andRead (tokenAt false l) shaped) (sym (front-of 40 e)), rw k tt)
 
   abbrev token-by : Bool → Bool → Read Token
   token-by first space = cond first (elementAt (getD s at 0 ∷ drop (at + 1) s)) (cond space (andRead (elementAt (drop (at + 1) s)) spaced) wrong)
 
   token-is : (first : Bool) → (getD s at 0 ≡ 41 → ⊥) → tokenAt first (drop at s) ≡ token-by first (eqb (getD s at 0) 32)
   unfolding tokenAt
-  token-is first q = ap (tokenAt first) front ∙ rw (ne-eqb (getD s at 0) 41 q)
+  token-is first q = ap (tokenAt first) (drop-next s at long) ∙ rw (ne-eqb (getD s at 0) 41 q)
 
   module _ (gap : ℕ) where
     gapped : (first space : Bool) → gap ≡ cond first 0 (cond space 1 2) → (gap ≡ 2 → ⊥) → movedBy gap (elementAt (drop (at + gap) s)) ≡ token-by first space
-    gapped true space e h = rw (e, add-zero at) (moved-none (elementAt (drop at s)) ∙ ap elementAt front)
+    gapped true space e h = rw (e, add-zero at) (moved-none (elementAt (drop at s)) ∙ ap elementAt (drop-next s at long))
     gapped false true e h = rw e (moved-one (elementAt (drop (at + 1) s)))
     gapped false false e h = absurd (h e)
 

@@ -185,7 +185,7 @@ fn moved(read: TokenRead, gap: usize) -> TokenRead
     }
 }
 
-// An opening bracket without a space before it.
+// An opening bracket with no space before it: only the first element of a list may begin so.
 fn opening(first: bool) -> TokenRead
     ensures { λ r. ⌜ tokenOf r ≡ cond first (got opened 1) wrong ⌝ }
 {
@@ -206,6 +206,7 @@ pub fn token_at(text: &[u8], at: usize, first: bool) -> TokenRead
     if c == 41 {
         return TokenRead::Close;
     }
+    // Tested here as well, so that nested lists need not be read as elements.
     if c == 40 {
         return opening(first);
     }

@@ -7,16 +7,15 @@ use native.Mathlib.Omega.{arith}
 use native.Mathlib.Nat.{mul-comm}
 use lib.Dec.{eqb, ltb, leb}
 use lib.ListN.{length, getD, drop, drop-of-length-le}
-use borrow.Author.Tests.{eq-eqb, ne-eqb, eqb-true, eqb-false}
+use borrow.Author.Tests.{ne-eqb, eqb-true, eqb-false}
 use Rattle.digits.specs.Read.{Read, got, wrong, andRead}
 use Rattle.digits.proofs.Judging.{both-left}
 use Rattle.text.specs.Text.{isPrinted, isMarked}
 use Rattle.text.specs.Form.{isLetter}
 use Rattle.text.specs.Read.{lettersAt, vocabAt, octalByte, escapeAt, charAt}
 use Rattle.text.proofs.Fronts.{or-left, or-right}
-use Rattle.text_value.specs.Answers.{octalDigit}
 use Rattle.text_value.proofs.Decimals.{drop-next}
-use Rattle.text_value.proofs.Fixeds.{range, octal-is, octal-other, power-next, power-most}
+use Rattle.text_value.proofs.Fixeds.{range, octalDigit, octal-is, octal-other, power-next, power-most}
 use Rattle.text_value.proofs.Letters.{behind, letter-next, vocab-start, vocab-end, vocab-empty, vocab-close, vocab-stop, vocab-turn}
 use Rattle.text_value.proofs.Letters.{escape-past, escape-marked, escape-short, escape-none, escape-byte}
 use Rattle.text_decode.specs.Pieces.{isGot}
@@ -125,12 +124,10 @@ octal-got n r e h = sym e ∙ go (not (eqb n 0) && (ltb n 256 && not (isPrinted 
     go false h = absurd (let z : _≡_ {A = ℕ} 0 1 = cc in omega arith)
 
 module _ (s : List ℕ) (at : ℕ) (there : isGot (escapeAt (drop at s)) ≡ true) where
-  pub escape-mark : (eqb (getD s at 0) 34 || eqb (getD s at 0) 92) ≡ true → escapeAt (drop at s) ≡ got (getD s at 0) 2
-  unfolding isMarked
+  pub escape-mark : isMarked (getD s at 0) ≡ true → escapeAt (drop at s) ≡ got (getD s at 0) 2
   escape-mark e = sym (escape-marked s at e)
 
-  pub escape-octal : (at2 at3 : ℕ) → at2 ≡ at + 1 → at3 ≡ at + 2 → (eqb (getD s at 0) 34 || eqb (getD s at 0) 92) ≡ false → Octal s at at2 at3
-  unfolding isMarked
+  pub escape-octal : (at2 at3 : ℕ) → at2 ≡ at + 1 → at3 ≡ at + 2 → isMarked (getD s at 0) ≡ false → Octal s at at2 at3
   escape-octal at2 at3 second third e = rw (second, third) (go (eqb x 8 || (eqb y 8 || eqb z 8)) refl)
     where
       x : ℕ
@@ -173,10 +170,6 @@ char-inside s at h =
 module _ (s : List ℕ) (at : ℕ) (there : isGot (charAt (drop at s)) ≡ true) where
   split : drop at s ≡ getD s at 0 ∷ drop (at + 1) s
   split = drop-next s at (char-inside s at there)
-
-  pub char-escape : getD s at 0 ≡ 92 → charAt (drop at s) ≡ escapeAt (drop (at + 1) s)
-  unfolding charAt
-  char-escape e = ap charAt split ∙ rw (eq-eqb (getD s at 0) 92 e)
 
   pub char-plain : (getD s at 0 ≡ 92 → ⊥) → charAt (drop at s) ≡ got (getD s at 0) 1
   unfolding charAt

@@ -1,11 +1,13 @@
 // Reads what was judged before: every test that judging makes is known to pass, and is left out.
+use text_value::is_digit;
+use text_value::is_marked;
 ghost use Prim.Native.Nat.{_+_, _-_, _^_, _≤_, _<_};
 ghost use mathlib.Core.Path.{_≡_};
 ghost use mathlib.Core.Bool.{true, cond};
 ghost use lib.Dec.{eqb};
 ghost use mathlib.Core.Option.{some};
 ghost use lib.ListN.{length, getD, drop};
-ghost use Rattle.digits.specs.Decimal.{isDecimal, decimalAt};
+ghost use Rattle.digits.specs.Decimal.{decimalAt};
 ghost use Rattle.digits.specs.Fixed.{digitOf, fixedAt};
 ghost use Rattle.text.specs.Read.{signSize, scaleAt, intAt, vocabAt, escapeAt, charAt, floatAt};
 ghost use Rattle.text_decode.specs.Pieces.{isGot, isSome, KnownAs, knownDecimal, knownHigh};
@@ -14,17 +16,6 @@ ghost use Rattle.text_decode.specs.Pieces.{isGot, isSome, KnownAs, known
 pub struct Known {
     pub bits: u32,
     pub end: usize,
-}
-
-// Does a digit stand there?
-fn is_digit(text: &[u8], at: usize) -> bool
-    ensures { λ r. ⌜ r ≡ isDecimal (getD (now (text .entry)) at 0) ⌝ }
-{
-    if at < text.len() {
-        let c = text[at];
-        return (48 <= c) & (c <= 57);
-    }
-    false
 }
 
 // A number in decimal; behind a leading zero nothing is read.
@@ -178,7 +169,7 @@ fn known_escape(text: &[u8], at: usize) -> Known
     ensures { λ r. ⌜ KnownAs (escapeAt (drop (at + 1) (now (text .entry)))) at r ⌝ }
 {
     let c = text[at + 1];
-    if (c == 34) | (c == 92) {
+    if is_marked(c) {
         return Known {
             bits: c as u32,
             end: at + 2,

@@ -1,5 +1,5 @@
 -- The text that is spelt from the rows and the store of a list is the list's text.
-use Prim.Native.Nat.{ℕ, suc, _+_, _-_, _≤_, _<_}
+use Prim.Native.Nat.{ℕ, suc, _+_, _≤_, _<_}
 use mathlib.Core.Bool.{true, false}
 use mathlib.Core.Path.{_≡_, refl, sym, ap, _∙_}
 use mathlib.Core.List.{List, [], _∷_, _++_, append-assoc, append-nil}
@@ -90,14 +90,14 @@ module _ (store : List ℕ) where
 
   -- a list in front of other elements
   step-list :
-      (a : Elements) (n used : ℕ) (outer rest : List ℕ) → length outer < depthLimit
+      (a : Elements) (n used : ℕ) (outer rest : List ℕ) → suc (length outer) < depthLimit
       → spell store (listCode ∷ count a ∷ 0 ∷ rest) used outer (suc n) ≡ 40 ∷ spell store rest used (n ∷ outer) (count a)
   step-list a n used outer rest l =
       spell-list store (row listCode (count a) 0) rest used outer (suc n) (omega arith) refl l ∙ rw (sub-one (suc n))
 
   -- LAW: elements that are not too deep are spelt as their text, and what is spelt behind them comes next
   spell-elements :
-      (es : Elements) (used : ℕ) (outer : List ℕ) (left : ℕ) (rest behind : List ℕ) → length outer + nested es ≤ depthLimit
+      (es : Elements) (used : ℕ) (outer : List ℕ) (left : ℕ) (rest behind : List ℕ) → suc (length outer) + nested es ≤ depthLimit
       → drop used store ≡ elementStore es ++ behind
       → spell store (elementRows used es ++ rest) used outer (count es + left) ≡ spaced es left ++ spell store rest (used + length (elementStore es)) outer left
   spell-elements none used outer left rest behind l b = rw (zero-add left, add-zero used)

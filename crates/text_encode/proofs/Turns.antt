@@ -1,5 +1,5 @@
 -- Laws of the text that is spelt from rows: what is written at a row and at the end of a list, and what is still to come.
-use Prim.Native.Nat.{ℕ, _+_, _-_, _*_, _≤_, _<_}
+use Prim.Native.Nat.{ℕ, suc, _+_, _-_, _*_, _≤_, _<_}
 use mathlib.Core.Path.{_≡_, refl, sym, ap, _∙_}
 use mathlib.Core.Bool.{true, false, cond, not, _&&_}
 use mathlib.Core.List.{List, [], _∷_, _++_, append-assoc}
@@ -55,7 +55,7 @@ module _ (store : List ℕ) where
   spell-row :
       (r : Row) (rows : List ℕ) (used : ℕ) (outer : List ℕ) (left : ℕ) → 0 < left
       → spell store (r .code ∷ r .second ∷ r .third ∷ rows) used outer left
-      ≡ cond (eqb (r .code) listCode) (cond (leb depthLimit (length outer)) [] (40 ∷ spell store rows used ((left - 1) ∷ outer) (r .second)))
+      ≡ cond (eqb (r .code) listCode) (cond (leb depthLimit (suc (length outer))) [] (40 ∷ spell store rows used ((left - 1) ∷ outer) (r .second)))
       (rowText (part store used (stored r)) r ++ (gap (eqb (left - 1) 0) ++ spell store rows (used + stored r) outer (left - 1)))
   unfolding spell
   spell-row r rows used outer left more = next-element _ _ _ outer left more
@@ -65,12 +65,12 @@ module _ (store : List ℕ) where
         ≡ rowText (part store used (stored r)) r ++ (gap (eqb (left - 1) 0) ++ spell store rows (used + stored r) outer (left - 1))
     spell-value h = spell-row r rows used outer left more ∙ rw (ne-eqb (r .code) listCode h)
 
-    pub spell-list : r .code ≡ listCode → length outer < depthLimit
+    pub spell-list : r .code ≡ listCode → suc (length outer) < depthLimit
         → spell store (r .code ∷ r .second ∷ r .third ∷ rows) used outer left ≡ 40 ∷ spell store rows used ((left - 1) ∷ outer) (r .second)
-    spell-list h l = spell-row r rows used outer left more ∙ rw (eq-eqb (r .code) listCode h, lt-leb depthLimit (length outer) l)
+    spell-list h l = spell-row r rows used outer left more ∙ rw (eq-eqb (r .code) listCode h, lt-leb depthLimit (suc (length outer)) l)
 
-    spell-full : r .code ≡ listCode → depthLimit ≤ length outer → spell store (r .code ∷ r .second ∷ r .third ∷ rows) used outer left ≡ []
-    spell-full h l = spell-row r rows used outer left more ∙ rw (eq-eqb (r .code) listCode h, le-leb depthLimit (length outer) l)
+    spell-full : r .code ≡ listCode → depthLimit ≤ suc (length outer) → spell store (r .code ∷ r .second ∷ r .third ∷ rows) used outer left ≡ []
+    spell-full h l = spell-row r rows used outer left more ∙ rw (eq-eqb (r .code) listCode h, le-leb depthLimit (suc (length outer)) l)
 
 -- whether a value is next
 module _ (rows : List ℕ) (at left : ℕ) where
@@ -87,8 +87,8 @@ module _ (rows : List ℕ) (at left : ℕ) where
   next-none h more long = eqb-true _ _ (not-false _ (rw (lt-ltb 0 left more, lt-ltb at (rowsIn rows) long) at h))
 
 -- the part from a to a + b has b bytes
-pub over-again : (a b : ℕ) → a + b - a ≡ b
-over-again a b = omega arith
+pub part-size : (a b : ℕ) → a + b - a ≡ b
+part-size a b = omega arith
 
 abbrev pub cursor : ℕ → ℕ → ℕ → ℕ → Cursor
 cursor row used end left = record { row = row; used = used; end = end; left = left }
@@ -198,10 +198,10 @@ module _ {rows store whole : List ℕ} {size : ℕ} {text outer : List ℕ} {x :
 
       -- a list
       module _ (nest : r .code ≡ listCode) where
-        pub full-ended : depthLimit ≤ length outer → (text ≡ whole) × (x .end ≡ size)
+        pub full-ended : depthLimit ≤ suc (length outer) → (text ≡ whole) × (x .end ≡ size)
         full-ended h = ended (at-row ∙ spell-full store r (rowsFrom rows (x .row + 1)) (x .used) outer (x .left) more nest h)
 
-        module _ (shallow : length outer < depthLimit) where
+        module _ (shallow : suc (length outer) < depthLimit) where
           to-open : toCome rows store outer x ≡ 40 ∷ spell store (rowsFrom rows (x .row + 1)) (x .used) ((x .left - 1) ∷ outer) (r .second)
           to-open = at-row ∙ spell-list store r (rowsFrom rows (x .row + 1)) (x .used) outer (x .left) more nest shallow
 

@@ -78,21 +78,21 @@ three-set text at a b c =
     rw (e, f)
 
 -- the first character, and the first two
-pub opened :
+pub first-put :
     (text : List ℕ) (at x : ℕ) (xs : List ℕ) → at + length (x ∷ xs) ≤ length text → Left text at (x ∷ xs) (set text at x) (at + 1) xs
-opened text at x xs room = left-next (x ∷ []) xs (left-all text at (x ∷ xs) room) refl refl refl
+first-put text at x xs room = left-next (x ∷ []) xs (left-all text at (x ∷ xs) room) refl refl refl
 
-pub opened-two :
+pub first-two-put :
     (text : List ℕ) (at x y : ℕ) (xs : List ℕ) → at + length (x ∷ y ∷ xs) ≤ length text
     → Left text at (x ∷ y ∷ xs) (set (set text at x) (at + 1) y) (at + 2) xs
-opened-two text at x y xs room = left-next (x ∷ y ∷ []) xs (left-all text at (x ∷ y ∷ xs) room) refl (two-set text at x y) refl
+first-two-put text at x y xs room = left-next (x ∷ y ∷ []) xs (left-all text at (x ∷ y ∷ xs) room) refl (two-set text at x y) refl
 
 -- a piece between two characters, of which the second is left
 pub enclosed :
     (text : List ℕ) (at left right : ℕ) (xs : List ℕ) {mid : List ℕ} {end : ℕ} → at + length (left ∷ (xs ++ (right ∷ []))) ≤ length text
     → mid ≡ sets (set text at left) (at + 1) xs → end ≡ at + 1 + length xs → Left text at (left ∷ (xs ++ (right ∷ []))) mid end (right ∷ [])
 enclosed text at left right xs room e f =
-    left-next xs (right ∷ []) (opened text at left (xs ++ (right ∷ [])) room) refl e f
+    left-next xs (right ∷ []) (first-put text at left (xs ++ (right ∷ [])) room) refl e f
 
 -- a character behind a piece may be written before it
 set-behind :

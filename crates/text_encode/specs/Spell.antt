@@ -1,6 +1,6 @@
 -- Internal: the text of a list from its rows, one after the other. Of the innermost open list `left` elements are still to come, and `outer`
 -- says the same of the lists around it, the inner before the outer. Public contracts do not cite this file.
-use Prim.Native.Nat.{ℕ, _+_, _*_, _≤_}
+use Prim.Native.Nat.{ℕ, suc, _+_, _*_, _≤_}
 use mathlib.Core.Path.{_≡_}
 use mathlib.Core.Bool.{Bool, true, false, cond, not, _&&_}
 use mathlib.Core.List.{List, [], _∷_, _++_}
@@ -34,14 +34,18 @@ rowText bs r = foundText bs (r .second) (r .third) (kindOf (r .code))
 abbrev pub closing : ℕ → List ℕ
 closing left = 41 ∷ gap (eqb left 0)
 
--- the text that is still to come, where `used` bytes of the store are used
+-- what is next, behind the ends of the inner lists that are closed first
+abbrev pub nextText : (List ℕ → ℕ → List ℕ) → List ℕ → ℕ → List ℕ
+nextText element outer left = nextIn (λ n rest. closing n ++ rest) [] element outer left
+
+-- the text that is still to come, where `used` bytes of the store are used; it ends where rows are missing or a list stands too deep
 unfoldable pub spell : List ℕ → List ℕ → ℕ → List ℕ → ℕ → List ℕ
-spell store [] used outer left = nextIn (λ n rest. closing n ++ rest) [] (λ _ _. []) outer left
-spell store (a ∷ []) used outer left = nextIn (λ n rest. closing n ++ rest) [] (λ _ _. []) outer left
-spell store (a ∷ b ∷ []) used outer left = nextIn (λ n rest. closing n ++ rest) [] (λ _ _. []) outer left
+spell store [] used outer left = nextText (λ _ _. []) outer left
+spell store (a ∷ []) used outer left = nextText (λ _ _. []) outer left
+spell store (a ∷ b ∷ []) used outer left = nextText (λ _ _. []) outer left
 spell store (a ∷ b ∷ c ∷ rows) used outer left =
-    nextIn (λ n rest. closing n ++ rest) []
-    (λ around n. cond (eqb a listCode) (cond (leb depthLimit (length around)) [] (40 ∷ spell store rows used (n ∷ around) b))
+    nextText
+    (λ around n. cond (eqb a listCode) (cond (leb depthLimit (suc (length around))) [] (40 ∷ spell store rows used (n ∷ around) b))
     (rowText (part store used (stored (row a b c))) (row a b c) ++ (gap (eqb n 0) ++ spell store rows (used + stored (row a b c)) around n)))
     outer left
 
@@ -49,7 +53,7 @@ spell store (a ∷ b ∷ c ∷ rows) used outer left =
 unfoldable pub spellList : List ℕ → List ℕ → List ℕ
 spellList rows store = spell store (rowsFrom rows 1) 0 [] (rowAt rows 0 .second)
 
--- the same from a cursor on
+-- the text that is still to come from a cursor on
 abbrev pub toCome : List ℕ → List ℕ → List ℕ → Cursor → List ℕ
 toCome rows store outer x = spell store (rowsFrom rows (x .row)) (x .used) outer (x .left)
 
@@ -76,7 +80,7 @@ GoesOn rows store text x text′ y =
 unfoldable pub valueNext : List ℕ → ℕ → ℕ → Bool
 valueNext rows at left = ltb 0 left && (ltb at (rowsIn rows) && not (eqb (rowAt rows (rowNumbers * at) .code) listCode))
 
--- none such is left
+-- y is not before x, and no such element is next there
 pub record Stopped (rows : List ℕ) (x y : Cursor) : Type 0 where
   pub onward : x .row ≤ y .row
   pub no-value : valueNext rows (y .row) (y .left) ≡ false

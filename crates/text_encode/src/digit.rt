@@ -71,7 +71,7 @@ fn large_count(n: u32) -> usize
     10
 }
 
-// Two digits at a time, since the next division waits for the one before.
+// Two digits at a time: each division needs the result of the one before it, and so there are half as many.
 fn put_digits(text: &mut [u8], at: usize, count: usize, n: u32)
     requires { ⌜ at + count ≤ length (now text) ⌝ }
     ensures { λ _. ⌜ now (text .exit) ≡ sets (now (text .entry)) at (fixed 10 count n) ⌝ }

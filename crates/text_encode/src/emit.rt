@@ -153,10 +153,11 @@ pub fn emit_list(rows: &[u8], store: &[u8], text: &mut [u8]) -> usize
             level -= 1;
             x = close_list(text, y, outer[level]);
         } else {
+            // Neither holds for rows that were judged.
             if count <= y.row {
                 return y.end;
             }
-            if level == DEPTH_LIMIT {
+            if level == DEPTH_LIMIT - 1 {
                 return y.end;
             }
             outer[level] = y.left - 1;

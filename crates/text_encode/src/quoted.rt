@@ -53,12 +53,12 @@ pub fn put_string(text: &mut [u8], at: usize, bytes: &[u8]) -> usize
     end + 1
 }
 
-// The space before an element that is not the first.
-pub fn put_gap(text: &mut [u8], at: usize, first: bool) -> usize
-    requires { ⌜ at + length (gap first) ≤ length (now text) ⌝ }
-    ensures { λ r. ⌜ (now (text .exit) ≡ sets (now (text .entry)) at (gap first)) × (r ≡ at + length (gap first)) ⌝ }
+// The space between two elements, or two bytes of a blob; none stands before the first and behind the last.
+pub fn put_gap(text: &mut [u8], at: usize, none: bool) -> usize
+    requires { ⌜ at + length (gap none) ≤ length (now text) ⌝ }
+    ensures { λ r. ⌜ (now (text .exit) ≡ sets (now (text .entry)) at (gap none)) × (r ≡ at + length (gap none)) ⌝ }
 {
-    if first {
+    if none {
         return at;
     }
     text[at] = 32;

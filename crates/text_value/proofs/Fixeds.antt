@@ -15,7 +15,6 @@ use Rattle.digits.specs.Decimal.{isDecimal}
 use Rattle.digits.specs.Fixed.{digitOf, fixedFrom}
 use Rattle.digits.proofs.Judging.{both-left, both-right}
 use Rattle.digits.proofs.Decimals.{digit-bounds}
-use Rattle.text_value.specs.Answers.{octalDigit}
 use Rattle.text_value.proofs.Decimals.{clash, drop-next}
 
 -- A DIGIT
@@ -117,6 +116,10 @@ hex-bad s at width i value true x e = clash (sym e)
 hex-bad s at width i value false x e = sym x
 
 -- OCTAL DIGITS
+-- a digit below 8, or 8
+abbrev pub octalDigit : ℕ → ℕ
+octalDigit c = cond (ltb (digitOf c) 8) (digitOf c) 8
+
 pub octal-is : (c : ℕ) → (leb 48 c && leb c 55) ≡ true → octalDigit c ≡ c - 48
 octal-is c h =
     let x = range 48 55 c h in

@@ -17,9 +17,8 @@ use Rattle.text.specs.Text.{isPrinted, isMarked}
 use Rattle.text.specs.Form.{isLetter}
 use Rattle.text.specs.Read.{lettersAt, vocabBits, vocabAt, octalByte, escapeAt}
 use Rattle.text.proofs.Vocabs.{letter-bounds}
-use Rattle.text_value.specs.Answers.{octalDigit}
 use Rattle.text_value.proofs.Decimals.{clash, drop-next, first-char}
-use Rattle.text_value.proofs.Fixeds.{power-most, three-digits, fixed-short}
+use Rattle.text_value.proofs.Fixeds.{octalDigit, power-most, three-digits, fixed-short}
 
 -- LETTERS
 letters-none : (most : ℕ) → lettersAt most [] ≡ wrong

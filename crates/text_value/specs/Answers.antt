@@ -2,7 +2,6 @@
 use Prim.Native.Nat.{ℕ, _+_, _≤_, _<_}
 use mathlib.Core.Bool.{Bool, cond}
 use lib.Dec.{eqb, ltb}
-use Rattle.digits.specs.Fixed.{digitOf}
 use mathlib.Core.Option.{Option, some}
 use mathlib.Core.Option as option
 use Rattle.digits.specs.Read.{Read, got, wrong, andRead}
@@ -44,10 +43,6 @@ intNumber r = andRead (wordOf r) intValue
 
 abbrev pub floatNumber : HalvesRead → Read Value
 floatNumber r = andRead (halvesIn r) floatValue
-
--- a digit below 8, or 8
-abbrev pub octalDigit : ℕ → ℕ
-octalDigit c = cond (ltb (digitOf c) 8) (digitOf c) 8
 
 -- the characters before an element: none before its list's first, a space before another, 2 where that is missing
 abbrev pub gapSize : Bool → ℕ → ℕ

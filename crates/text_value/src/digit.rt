@@ -60,7 +60,7 @@ pub fn decimal_at(text: &[u8], at: usize, limit: u32) -> WordRead
 }
 
 // Does a decimal digit stand at an offset?
-fn is_digit(text: &[u8], at: usize) -> bool
+pub fn is_digit(text: &[u8], at: usize) -> bool
     ensures { λ r. ⌜ r ≡ isDecimal (getD (now (text .entry)) at 0) ⌝ }
 {
     if at < text.len() {

@@ -85,7 +85,7 @@ fn octal_byte(b: u32) -> WordRead
     WordRead::Is { bits: b, count: 4 }
 }
 
-// An octal digit.
+// Is it one of 0 to 7?
 fn is_octal(c: u8) -> bool
     ensures { λ r. ⌜ r ≡ (leb 48 c && leb c 55) ⌝ }
 {
@@ -112,6 +112,7 @@ pub fn escape_at(text: &[u8], at: usize) -> WordRead
     let b = text[at + 1];
     let d = text[at + 2];
     if is_octal(c) & (is_octal(b) & is_octal(d)) {
+        // 48 is a multiple of 8, so what is left of a digit's character by 8 is its value.
         return octal_byte(64 * (c % 8) as u32 + 8 * (b % 8) as u32 + (d % 8) as u32);
     }
     WordRead::Wrong

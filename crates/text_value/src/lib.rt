@@ -6,6 +6,7 @@ mod int;
 mod letter;
 
 pub use blob::blob_byte_at;
+pub use digit::is_digit;
 use float::HalvesRead;
 use float::float_at;
 use int::int_at;

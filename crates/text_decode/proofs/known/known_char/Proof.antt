@@ -1,8 +1,9 @@
 -- `text_decode::known::known_char` meets its contract.
 use mathlib.Core.Path.{refl}
 use native.Mathlib.Omega.{arith}
+use Rattle.text_check.proofs.Spans.{char-escape}
 use Rattle.text_decode.proofs.Knowns.{known-as, known-same}
-use Rattle.text_decode.proofs.Letters.{char-inside, char-small, char-escape, char-plain}
+use Rattle.text_decode.proofs.Letters.{char-inside, char-small, char-plain}
 use Rattle.text_decode.proofs.known.known_char.Statement.{statement}
 use Rattle.text_decode.proofs.known.known_char.Tie as tie
 
@@ -12,13 +13,15 @@ shared-slice-read-c c = let b = c .before .before in char-inside (b .args .text 
 known-escape-requires : tie.Need-known-escape-requires
 known-escape-requires c κs =
     let b = c .before .before .before in
-    rw (char-escape (b .args .text .now) (b .args .at) (b .pre) (c .if1 .taken)) at (b .pre)
+    let inside = char-inside (b .args .text .now) (b .args .at) (b .pre) in
+    rw (char-escape (b .args .text .now) (b .args .at) inside (c .if1 .taken)) at (b .pre)
 
 returns : tie.Need-returns
 returns c =
     let i = c .before in
     let b = i .before .before .before in
-    known-same (char-escape (b .args .text .now) (b .args .at) (b .pre) (i .if1 .taken)) (c .known-escape .ensures)
+    let inside = char-inside (b .args .text .now) (b .args .at) (b .pre) in
+    known-same (char-escape (b .args .text .now) (b .args .at) inside (i .if1 .taken)) (c .known-escape .ensures)
 
 cast-t7 : tie.Need-cast-t7
 cast-t7 c =

@@ -1,6 +1,6 @@
 -- `text_encode::emit::emit_list` meets its contract.
 -- The invariant: the writing is underway from the cursor on, and `outer` holds the lists around the innermost open one.
-use Prim.Native.Nat.{_+_, _-_, _*_, _≤_, _<_}
+use Prim.Native.Nat.{_+_, _-_, _*_, _<_}
 use mathlib.Core.Path.{_≡_, refl, sym, ap, _∙_}
 use native.Mathlib.Omega.{arith}
 use native.Mathlib.Numerals.{add-one}
@@ -20,7 +20,7 @@ use Rattle.text_encode.proofs.emit.emit_list.Tie as tie
 abbrev Inv-loop : tie.InvT-loop
 Inv-loop rows store text₀ count outer₀ level₀ x₀ text outer level x =
     Underway (unpacked rows) store (sets text₀ 0 (spellList (unpacked rows) store)) (length (spellList (unpacked rows) store)) text (stackOf outer level) x
-    × (level ≤ depthLimit) × (length outer ≡ depthLimit)
+    × (level < depthLimit) × (length outer ≡ depthLimit)
 
 abbrev μ-loop : tie.MeasureT-loop
 μ-loop rows store text₀ count outer₀ level₀ x₀ text outer level x = 2 * (count - x .row) + level
@@ -154,6 +154,7 @@ emit-list-spec =
     loop-again
     (λ c. same-size (c .before .before .before .before .before .before))
     returns-2
+    (λ c. search needs)
     (λ c. same-size (c .before .before .before .before .before .before .before))
     returns-3
     (λ c. omega (arith, c .before .before .before .before .if1 .left))

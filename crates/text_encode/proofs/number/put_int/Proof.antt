@@ -6,7 +6,7 @@ use lib.ListN.{set}
 use borrow.Author.Needs.{needs}
 use borrow.Author.Tests.{le-leb, lt-leb}
 use Rattle.digits.specs.Decimal.{decimal}
-use Rattle.text_encode.proofs.Writing.{Left, opened, left-end, left-length}
+use Rattle.text_encode.proofs.Writing.{Left, first-put, left-end, left-length}
 use Rattle.text_encode.proofs.number.put_int.Statement.{statement}
 use Rattle.text_encode.proofs.number.put_int.Tie as tie
 
@@ -29,7 +29,7 @@ put-decimal-requires-2 : tie.Need-put-decimal-requires-2
 put-decimal-requires-2 c κs =
     let s = c .before .before .before in
     let room = rw (le-leb 2147483648 (s .args .bits) (c .before .if1 .left)) at (s .pre) in
-    opened (s .args .text .now) (s .args .at) 45 (decimal (2 ^ 32 - s .args .bits)) room .room
+    first-put (s .args .text .now) (s .args .at) 45 (decimal (2 ^ 32 - s .args .bits)) room .room
 
 negative-left :
     (c : tie.After-slice-known3) → let s = c .before .before .before .before .before .before in
@@ -37,7 +37,7 @@ negative-left :
     (decimal (2 ^ 32 - s .args .bits))
 negative-left c =
     let s = c .before .before .before .before .before .before in
-    opened (s .args .text .now) (s .args .at) 45 (decimal (2 ^ 32 - s .args .bits))
+    first-put (s .args .text .now) (s .args .at) 45 (decimal (2 ^ 32 - s .args .bits))
     (rw (le-leb 2147483648 (s .args .bits) (c .before .before .before .before .if1 .left)) at (s .pre))
 
 same-length-2 : tie.Need-same-length-2

@@ -6,7 +6,7 @@ use lib.ListN.{set, length-set}
 use borrow.Author.Needs.{needs}
 use borrow.Author.Tests.{le-leb, lt-leb}
 use Rattle.digits.specs.Decimal.{decimal}
-use Rattle.text_encode.proofs.Writing.{Left, opened-two, left-end, left-length}
+use Rattle.text_encode.proofs.Writing.{Left, first-two-put, left-end, left-length}
 use Rattle.text_encode.proofs.number.put_scale.Statement.{statement}
 use Rattle.text_encode.proofs.number.put_scale.Tie as tie
 
@@ -28,7 +28,7 @@ plus :
     (s .args .at + 2) (decimal (s .args .bits - 1023))
 plus c =
     let s = c .before .before .before .before .before .before in
-    opened-two (s .args .text .now) (s .args .at) 112 43 (decimal (s .args .bits - 1023))
+    first-two-put (s .args .text .now) (s .args .at) 112 43 (decimal (s .args .bits - 1023))
     (rw (le-leb 1023 (s .args .bits) (c .before .before .before .before .if1 .taken)) at (s .pre .0))
 
 same-length : tie.Need-same-length
@@ -58,7 +58,7 @@ minus :
     (s .args .at + 2) (decimal (1023 - s .args .bits))
 minus c =
     let s = c .before .before .before .before .before .before in
-    opened-two (s .args .text .now) (s .args .at) 112 45 (decimal (1023 - s .args .bits))
+    first-two-put (s .args .text .now) (s .args .at) 112 45 (decimal (1023 - s .args .bits))
     (rw (lt-leb 1023 (s .args .bits) (c .before .before .before .before .if1 .left)) at (s .pre .0))
 
 same-length-2 : tie.Need-same-length-2

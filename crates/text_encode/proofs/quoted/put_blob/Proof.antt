@@ -5,7 +5,7 @@ use mathlib.Core.Bool.{true}
 use native.Mathlib.Omega.{arith}
 use borrow.Author.Needs.{needs}
 use Rattle.text.specs.Text.{bytesText}
-use Rattle.text_encode.proofs.Writing.{Left, left-room, left-end, opened, enclosed}
+use Rattle.text_encode.proofs.Writing.{Left, left-room, left-end, first-put, enclosed}
 use Rattle.text_encode.proofs.quoted.put_blob.Statement.{statement}
 use Rattle.text_encode.proofs.quoted.put_blob.Tie as tie
 
@@ -22,7 +22,7 @@ put-bytes-requires : tie.Need-put-bytes-requires
 put-bytes-requires c κs =
     let s = c .before .before .before in
     let a = s .args in
-    left-room (bytesText true (a .bytes .now)) (125 ∷ []) (opened (a .text .now) (a .at) 123 (bytesText true (a .bytes .now) ++ (125 ∷ [])) (s .pre)) refl
+    left-room (bytesText true (a .bytes .now)) (125 ∷ []) (first-put (a .text .now) (a .at) 123 (bytesText true (a .bytes .now) ++ (125 ∷ [])) (s .pre)) refl
 
 slice-write-text-2 : tie.Need-slice-write-text-2
 slice-write-text-2 c = let l = behind c in omega arith

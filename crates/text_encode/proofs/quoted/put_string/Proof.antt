@@ -4,7 +4,7 @@ use mathlib.Core.List.{[], _∷_, _++_}
 use native.Mathlib.Omega.{arith}
 use borrow.Author.Needs.{needs}
 use Rattle.text.specs.Text.{charsText}
-use Rattle.text_encode.proofs.Writing.{Left, left-room, left-end, opened, enclosed}
+use Rattle.text_encode.proofs.Writing.{Left, left-room, left-end, first-put, enclosed}
 use Rattle.text_encode.proofs.quoted.put_string.Statement.{statement}
 use Rattle.text_encode.proofs.quoted.put_string.Tie as tie
 
@@ -21,7 +21,7 @@ put-chars-requires : tie.Need-put-chars-requires
 put-chars-requires c κs =
     let s = c .before .before .before in
     let a = s .args in
-    left-room (charsText (a .bytes .now)) (34 ∷ []) (opened (a .text .now) (a .at) 34 (charsText (a .bytes .now) ++ (34 ∷ [])) (s .pre)) refl
+    left-room (charsText (a .bytes .now)) (34 ∷ []) (first-put (a .text .now) (a .at) 34 (charsText (a .bytes .now) ++ (34 ∷ [])) (s .pre)) refl
 
 slice-write-text-2 : tie.Need-slice-write-text-2
 slice-write-text-2 c = let l = behind c in omega arith

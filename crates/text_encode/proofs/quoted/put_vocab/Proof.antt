@@ -4,7 +4,7 @@ use mathlib.Core.List.{[], _∷_, _++_}
 use native.Mathlib.Omega.{arith}
 use borrow.Author.Needs.{needs}
 use Rattle.text.specs.Text.{letters}
-use Rattle.text_encode.proofs.Writing.{Left, left-room, left-end, opened, enclosed}
+use Rattle.text_encode.proofs.Writing.{Left, left-room, left-end, first-put, enclosed}
 use Rattle.text_encode.proofs.quoted.put_vocab.Statement.{statement}
 use Rattle.text_encode.proofs.quoted.put_vocab.Tie as tie
 
@@ -21,7 +21,7 @@ put-letters-requires : tie.Need-put-letters-requires
 put-letters-requires c κs =
     let s = c .before .before in
     let a = s .args in
-    left-room (letters (a .bits)) (93 ∷ []) (opened (a .text .now) (a .at) 91 (letters (a .bits) ++ (93 ∷ [])) (s .pre)) refl
+    left-room (letters (a .bits)) (93 ∷ []) (first-put (a .text .now) (a .at) 91 (letters (a .bits) ++ (93 ∷ [])) (s .pre)) refl
 
 slice-write-text-2 : tie.Need-slice-write-text-2
 slice-write-text-2 c = let l = behind c in omega arith
