@@ -2,4 +2,5 @@ pub mod PacketAnswers
 pub mod ListAnswers
 pub mod StreamAnswers
 pub mod WriteAnswers
+pub mod PacketTrips
 pub mod HubAnswers

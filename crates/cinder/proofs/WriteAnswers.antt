@@ -10,6 +10,7 @@ use borrow.Author.Tests.{ne-eqb, ltb-false}
 use Rattle.wire.specs.Area.{over}
 use Rattle.packet.specs.TypeTable.{PING, ACK, DEVICE_WRITE, DEVICE_DATA, LOG, allows, allowed}
 use Rattle.packet.specs.Packet.{PACKET_ROOM}
+use Rattle.packet.proofs.Lengths.{zero-none}
 use Rattle.packet_encode.specs.declared.Encoded as packet-code
 use Rattle.packet_encode.specs.Encode as packet
 use Rattle.packet_encode.specs.Encode.{packetOf, Writing, encodeError, encoded}
@@ -22,7 +23,7 @@ use Rattle.cinder.specs.WriteCall.{WriteOutcome, packetNumbers, listNumb
 abbrev pub beside : WriteResult → List ℕ → WriteOutcome
 beside r area = record { answer = r; area = area }
 
--- no type is above a byte, and none is 0
+-- no type is above a byte
 above-none : (number n : ℕ) → 256 ≤ number → allowed number n ≡ false
 unfolding allowed allows
 above-none number n h =
@@ -33,10 +34,6 @@ above-none number n h =
       ne-eqb number DEVICE_DATA (λ e. omega arith),
       ne-eqb number LOG (λ e. omega arith),
     )
-
-zero-none : (n : ℕ) → allowed 0 n ≡ false
-unfolding allowed allows
-zero-none n = refl
 
 -- what is answered to a type that is none
 unknown : (type : ℕ) (payload area : List ℕ) → allowed type (length payload) ≡ false

@@ -1,5 +1,5 @@
--- Lengths: the payload lengths of the type table, a single one as a range and the greatest of all, and that of a message.
-use Prim.Native.Nat.{ℕ, _+_, _≤_}
+-- Lengths: the payload lengths of the type table, a single one as a range and the greatest of all, and that of a message; and that 0 is no type.
+use Prim.Native.Nat.{ℕ, zero, suc, _+_, _≤_, _<_}
 use mathlib.Core.Path.{_≡_, refl, sym, _∙_}
 use mathlib.Core.Bool.{Bool, true, false, cond, _&&_}
 use mathlib.Core.List.{List, [], _∷_}
@@ -40,6 +40,15 @@ allows-top top (row number least most ∷ rows) kind n w h =
 pub allowed-top : (kind n : ℕ) → allowed kind n ≡ true → n ≤ 251
 unfolding allowed within
 allowed-top kind n h = allows-top 251 typeTable kind n (omega arith, (omega arith, (omega arith, (omega arith, (omega arith, tt))))) h
+
+-- 0 is no type
+pub zero-none : (n : ℕ) → allowed 0 n ≡ false
+unfolding allowed allows
+zero-none n = refl
+
+pub allowed-kind : (kind n : ℕ) → allowed kind n ≡ true → 0 < kind
+allowed-kind zero n h = clash (sym h ∙ zero-none n)
+allowed-kind (suc kind) n h = omega arith
 
 -- type, payload length and checksum stand beside the payload
 pub length-messageOf : (kind : ℕ) (payload : List ℕ) → length (messageOf kind payload) ≡ length payload + 3

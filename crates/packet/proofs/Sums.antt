@@ -82,7 +82,7 @@ xor-assoc = bin-ind (λ (a : ℕ). (b c : ℕ) → bitXor (bitXor a b) c ≡ bit
     xor-step (bitXor a b) c ∙ ap₂ (λ (x y : ℕ). x * 2 + y) high low ∙ sym (xor-step a (bitXor b c)))
 
 -- a byte put in front of all others comes last as well
-xor-late : (q : List ℕ) (x c : ℕ) → xorFrom (bitXor x c) q ≡ bitXor (xorFrom x q) c
+pub xor-late : (q : List ℕ) (x c : ℕ) → xorFrom (bitXor x c) q ≡ bitXor (xorFrom x q) c
 unfolding xorFrom
 xor-late [] x c = refl
 xor-late (b ∷ q) x c =

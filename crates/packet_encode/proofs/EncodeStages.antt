@@ -1,22 +1,38 @@
--- The stages of writing: the checksum, the checksum's byte, the payload, the front; and that together they are the packet.
-use Prim.Native.Nat.{ℕ, suc, _+_, _-_, _≤_, _<_}
+-- The stages of writing: the checksum, the checksum's byte, the payload, the front; that together they are the packet; and the packet of no payload.
+use Prim.Native.Nat.{ℕ, zero, suc, _+_, _-_, _≤_, _<_}
 use mathlib.Core.Path.{_≡_, refl, sym, ap, ap₂, _∙_}
 use mathlib.Core.Bool.{true, false}
 use mathlib.Core.List.{List, [], _∷_, _++_, append-assoc}
 use native.Mathlib.Omega.{arith}
-use lib.Bits.{bitXor, xor-zero-l}
+use lib.Bits.{bitXor, xor-zero-l, xor-zero-r}
 use lib.ListN.{length, take, drop, set, length-append, length-drop, length-set}
 use lib.Seq.{drop-drop, drop-at, length-take-le, set-split}
 use borrow.Author.Tests.{lt-ltb, le-ltb}
-use borrow.Rule.Slice.PartMut.{putMid}
+use borrow.Rule.Slice.PartMut.{putMid, put-same}
 use Rattle.wire.specs.Area.{over}
 use Rattle.packet.specs.Cobs.{codeOr, gapFrom, gapBefore, stuffed, encodedPart}
 use Rattle.packet.specs.TypeTable.{allowed}
 use Rattle.packet.specs.Message.{xorFrom, headOf, messageOf}
 use Rattle.packet.specs.Packet.{PACKET_ROOM}
 use Rattle.packet_encode.specs.Encode.{written, refused, packetOf, encodeError, encoded}
-use Rattle.packet.proofs.CobsSteps.{length-stuffed}
 use Rattle.packet.proofs.Lengths.{length-messageOf}
+use Rattle.packet.proofs.Sums.{xor-late}
+
+-- what is encoded is as long as it was, and the bytes before the next 00 are no more than there are
+pub length-stuffed : (g : ℕ) (m : List ℕ) → length (stuffed g m) ≡ length m
+unfolding stuffed
+length-stuffed g [] = refl
+length-stuffed g (b ∷ m) = ap suc (length-stuffed g m)
+
+pub gapFrom-le : (b g : ℕ) → gapFrom b g ≤ suc g
+unfolding gapFrom
+gapFrom-le zero g = omega arith
+gapFrom-le (suc b) g = omega arith
+
+pub gap-le : (g : ℕ) (m : List ℕ) → gapBefore g m ≤ g + length m
+unfolding gapBefore
+gap-le g [] = omega arith
+gap-le g (b ∷ m) = omega (arith, gapFrom-le b (gapBefore g m), gap-le g m)
 
 pub length-encodedPart : (kind : ℕ) (payload : List ℕ) → length (encodedPart (messageOf kind payload)) ≡ length payload + 4
 length-encodedPart kind payload = length-stuffed 0 (0 ∷ messageOf kind payload) ∙ omega (arith, length-messageOf kind payload)
@@ -40,6 +56,17 @@ module _ (kind : ℕ) (payload buffer : List ℕ) where
     unfolding encoded encodeError
     encoded-good a = simp (le-ltb _ _ h, a)
 
+-- a byte that is no 00 stands for itself, and is one more before the next 00
+pub code-kept : (b g : ℕ) → (b ≡ 0 → ⊥) → b ≡ codeOr b g
+unfolding codeOr
+code-kept zero g other = absurd (other refl)
+code-kept (suc b) g other = refl
+
+pub gap-kept : (b g : ℕ) → (b ≡ 0 → ⊥) → suc g ≡ gapFrom b g
+unfolding gapFrom
+gap-kept zero g other = absurd (other refl)
+gap-kept (suc b) g other = refl
+
 -- two lists after one another, encoded from the back
 pub gap-append : (last : ℕ) (m r : List ℕ) → gapBefore last (m ++ r) ≡ gapBefore (gapBefore last r) m
 unfolding gapBefore
@@ -55,10 +82,10 @@ module _ (kind : ℕ) (payload : List ℕ) where
   abbrev pub sumOf : ℕ
   sumOf = xorFrom 0 (headOf kind payload)
 
-  -- the checksum as the code computes it
-  pub sum-from : xorFrom (bitXor kind (length payload)) payload ≡ sumOf
+  -- the checksum as the code computes it: the payload's bytes first
+  pub sum-late : bitXor (xorFrom 0 payload) (bitXor kind (length payload)) ≡ sumOf
   unfolding xorFrom
-  sum-from = rw (xor-zero-l kind)
+  sum-late = sym (xor-late payload 0 (bitXor kind (length payload))) ∙ rw (xor-zero-l (bitXor kind (length payload)), xor-zero-l kind)
 
   abbrev pub lastGap : ℕ
   lastGap = gapFrom sumOf 0
@@ -116,3 +143,29 @@ module _ (kind : ℕ) (payload : List ℕ) where
     pub finished : (out l : List ℕ) (gap : ℕ) → gap ≡ firstGap → l ≡ loaded → out ≡ 0 ∷ (length payload + 4) ∷ (stuffed gap (0 ∷ kind ∷ length payload ∷ []) ++ drop 5 l)
         → out ≡ over (packetOf kind payload) buffer
     finished out l gap g f e = e ∙ rw (g, f) whole
+
+pub empty : (l : List ℕ) → length l ≡ 0 → l ≡ []
+empty [] h = refl
+empty (b ∷ l) h = absurd (omega arith)
+
+-- a message of no payload has its type as checksum
+module _ (kind : ℕ) (buffer : List ℕ) (typed : 0 < kind) (room : 6 ≤ length buffer) where
+  no-zero : kind ≡ 0 → ⊥
+  no-zero e = omega arith
+
+  sum-empty : sumOf kind [] ≡ kind
+  unfolding xorFrom
+  sum-empty = rw (xor-zero-l kind, xor-zero-r kind)
+
+  gap-empty : 1 ≡ firstGap kind []
+  unfolding gapBefore
+  gap-empty = gap-kept kind 0 no-zero ∙ ap (λ (x : ℕ). gapFrom x 0) (sym sum-empty)
+
+  closed-empty : set buffer 5 kind ≡ loaded kind [] buffer room
+  unfolding stuffed
+  closed-empty =
+      ap (set buffer 5) (code-kept kind 0 no-zero ∙ ap (λ (x : ℕ). codeOr x 0) (sym sum-empty))
+      ∙ sym (put-same 5 0 (closed kind [] buffer room))
+
+  pub finished-empty : (out : List ℕ) → out ≡ 0 ∷ 4 ∷ (stuffed 1 (0 ∷ kind ∷ 0 ∷ []) ++ drop 5 (set buffer 5 kind)) → out ≡ over (packetOf kind []) buffer
+  finished-empty out e = finished kind [] buffer room out (set buffer 5 kind) 1 gap-empty closed-empty e

@@ -1,2 +1,3 @@
 pub mod EncodeStages
+pub mod EncodeSteps
 pub mod RoundTrips

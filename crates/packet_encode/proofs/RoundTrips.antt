@@ -2,7 +2,7 @@
 use Prim.Native.Nat.{ℕ, _≤_}
 use mathlib.Core.Path.{_≡_, refl, sym, ap, ap₂, _∙_}
 use mathlib.Core.Bool.{Bool, true, false, not}
-use mathlib.Core.List.{List, [], _∷_, append-assoc}
+use mathlib.Core.List.{List, [], _∷_, _++_, append-assoc}
 use native.Mathlib.Omega.{arith}
 use lib.Dec.{eqb, ltb}
 use lib.ListN.{length, take, drop}
@@ -12,7 +12,7 @@ use Rattle.wire.specs.Area.{over}
 use Rattle.packet.specs.Cobs.{encodedPart}
 use Rattle.packet.specs.TypeTable.{allowed}
 use Rattle.packet.specs.Message.{messageOf}
-use Rattle.packet.specs.Packet.{PACKET_ROOM, IsPacket, accepted, copyOf, decoded}
+use Rattle.packet.specs.Packet.{PACKET_ROOM, IsPacket, StartsWith, accepted, copyOf, decoded}
 use Rattle.packet_encode.specs.Encode.{Writing, written, packetOf, encodeError, encoded}
 use Rattle.packet.proofs.CobsBlocks.{encodes, encodes-only}
 use Rattle.packet.proofs.FrontTests.{pass}
@@ -60,9 +60,19 @@ module _ (kind : ℕ) (payload buffer : List ℕ) (count : ℕ) (h : encoded kin
         size = let q = sym h ∙ ap (λ (w : Writing). w .result) wrote in cc q;
       }
 
--- the payload in a working copy
-payload-in : (kind : ℕ) (payload : List ℕ) → take (length payload) (drop 2 (copyOf (messageOf kind payload))) ≡ payload
-payload-in kind payload = ap (take (length payload)) (append-assoc payload _ _) ∙ take-at payload _ (length payload) refl
+-- the payload in a message, with anything behind it
+pub payload-in : (kind : ℕ) (payload rest : List ℕ) → take (length payload) (drop 2 (messageOf kind payload ++ rest)) ≡ payload
+payload-in kind payload rest = ap (take (length payload)) (append-assoc payload _ rest) ∙ take-at payload _ (length payload) refl
+
+-- the type and payload of a packet at the front, written into any buffer with room, give the packet's bytes
+pub packet-encodes : (s : List ℕ) (kind : ℕ) (payload : List ℕ) (consumed : ℕ) → StartsWith s kind payload consumed → (buffer : List ℕ) → PACKET_ROOM ≤ length buffer
+    → encoded kind payload buffer ≡ record { result = written consumed; buffer = over (take consumed s) buffer }
+packet-encodes s kind payload consumed w buffer room =
+    let b = w .bytes in
+    let o : b ≡ packetOf kind payload = only-packet b kind payload (w .packet) in
+    let t : take consumed s ≡ b = ap (take consumed) (w .split) ∙ take-at b (w .later) consumed (sym (w .size)) in
+    sym (encoded-good kind payload buffer room (w .packet .allows))
+    ∙ ap₂ (λ (c : ℕ) (l : List ℕ). record { result = written c; buffer = over l buffer }) (ap length (sym o) ∙ sym (w .size)) (sym (t ∙ o))
 
 -- decoded, encodes back: what is accepted and written again, into any buffer with room, gives the same bytes
 pub decoded-encodes : (s : List ℕ) (kind n consumed : ℕ) → decoded s .judgement ≡ accepted kind n consumed → (buffer : List ℕ) → PACKET_ROOM ≤ length buffer
@@ -70,11 +80,6 @@ pub decoded-encodes : (s : List ℕ) (kind n consumed : ℕ) → decoded s .judg
 decoded-encodes s kind n consumed h buffer room =
     let w = sound s kind n consumed h in
     let p = w .payload in
-    let b = w .starts .bytes in
     let e : take n (drop 2 (decoded s .message)) ≡ p = ap (λ (l : List ℕ). take n (drop 2 l)) (w .held)
-    ∙ ap (λ (k : ℕ). take k (drop 2 (copyOf (messageOf kind p)))) (sym (w .sized)) ∙ payload-in kind p in
-    let o : b ≡ packetOf kind p = only-packet b kind p (w .starts .packet) in
-    let t : take consumed s ≡ b = ap (take consumed) (w .starts .split) ∙ take-at b (w .starts .later) consumed (sym (w .starts .size)) in
-    ap (λ (q : List ℕ). encoded kind q buffer) e
-    ∙ sym (encoded-good kind p buffer room (w .starts .packet .allows))
-    ∙ ap₂ (λ (c : ℕ) (l : List ℕ). record { result = written c; buffer = over l buffer }) (ap length (sym o) ∙ sym (w .starts .size)) (sym (t ∙ o))
+    ∙ ap (λ (k : ℕ). take k (drop 2 (copyOf (messageOf kind p)))) (sym (w .sized)) ∙ payload-in kind p _ in
+    ap (λ (q : List ℕ). encoded kind q buffer) e ∙ packet-encodes s kind p consumed (w .starts) buffer room

@@ -1,26 +1,22 @@
 -- `code_or` is `codeOr`, by the test whether the byte is 00.
-use Prim.Native.Nat.{ℕ, zero, suc}
-use mathlib.Core.Path.{_≡_, refl}
-use native.Mathlib.Numerals.{add-one}
+use Prim.Native.Nat.{suc, _-_}
+use mathlib.Core.Path.{_≡_}
+use native.Mathlib.Omega.{arith}
 use borrow.Author.Needs.{needs}
 use Rattle.packet.specs.Cobs.{codeOr}
+use Rattle.packet_encode.proofs.EncodeStages.{code-kept}
 use Rattle.packet_encode.proofs.code_or.Statement.{statement}
 use Rattle.packet_encode.proofs.code_or.Tie as tie
 
-other : (b gap : ℕ) → (b ≡ 0 → ⊥) → b ≡ codeOr b gap
-unfolding codeOr
-other zero gap z = absurd (z refl)
-other (suc b) gap z = refl
-
-add-result : tie.Need-add-result
-add-result c = search needs
+cast-result : tie.Need-cast-result
+cast-result c = search needs
 
 returns : tie.Need-returns
 unfolding codeOr
-returns c = rw (c .if1 .taken) (add-one _)
+returns c = let e : c .before .args .code ≡ suc (c .before .args .code - 1) = omega arith in rw (c .if1 .taken) e
 
 returns-2 : tie.Need-returns-2
-returns-2 c = other _ _ (c .if1 .left)
+returns-2 c = code-kept _ _ (c .if1 .left)
 
 pub code-or-spec : {M : Type 1} → statement M
-code-or-spec = tie.close (tie.spec add-result returns returns-2)
+code-or-spec = tie.close (tie.spec cast-result returns returns-2)

@@ -1,4 +1,4 @@
--- `xor_from` is the exclusive or of all bytes. The invariant: x with the bytes to come gives the whole.
+-- `xor_of` is the exclusive or of all bytes. The invariant: x with the bytes to come gives the whole.
 use Prim.Native.Nat.{_≤_, _-_}
 use mathlib.Core.Path.{_≡_, refl, sym, _∙_}
 use native.Mathlib.Omega.{arith}
@@ -6,14 +6,14 @@ use lib.ListN.{length, drop}
 use borrow.Author.Needs.{needs}
 use Rattle.packet.specs.Message.{xorFrom}
 use Rattle.packet.proofs.Sums.{xor-next, xor-past}
-use Rattle.packet_encode.proofs.xor_from.Statement.{statement}
-use Rattle.packet_encode.proofs.xor_from.Tie as tie
+use Rattle.packet_encode.proofs.xor_of.Statement.{statement}
+use Rattle.packet_encode.proofs.xor_of.Tie as tie
 
 abbrev Inv-loop : tie.InvT-loop
-Inv-loop start bytes x₀ i₀ x i = (i ≤ length bytes) × (xorFrom x (drop i bytes) ≡ xorFrom start bytes)
+Inv-loop bytes x₀ i₀ x i = (i ≤ length bytes) × (xorFrom x (drop i bytes) ≡ xorFrom 0 bytes)
 
 abbrev μ-loop : tie.MeasureT-loop
-μ-loop start bytes x₀ i₀ x i = length bytes - i
+μ-loop bytes x₀ i₀ x i = length bytes - i
 
 loop-holds : tie.Need-loop-holds Inv-loop μ-loop
 loop-holds c = (omega arith, refl)
@@ -35,7 +35,7 @@ returns : tie.Need-returns Inv-loop μ-loop
 returns c = let l = c .before in
     sym (xor-past (l .before .args .bytes .now) (l .loop .i) (l .loop .x) (search needs)) ∙ l .loop .inv .1
 
-pub xor-from-spec : {M : Type 1} → statement M
-xor-from-spec =
+pub xor-of-spec : {M : Type 1} → statement M
+xor-of-spec =
     tie.close
     (tie.spec Inv-loop μ-loop loop-holds shared-slice-read-x add-i loop-less loop-again returns)
