@@ -32,6 +32,7 @@ outside: built
 	tests/run_cases.sh
 	tests/replay_cases.sh
 	tests/show_cases.sh
+	tests/no_arrays.sh
 	$(MAKE) --no-print-directory -C tests all
 
 fuzz: built

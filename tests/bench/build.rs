@@ -1,10 +1,10 @@
-//! Compiles the C readers of plain/ with gcc and links them.
+//! Compiles the C calls of plain/ with gcc and links them.
 
 use std::env;
 use std::path::{Path, PathBuf};
 use std::process::Command;
 
-const SOURCES: [&str; 3] = ["list_reader", "packet_reader", "tuned_list_reader"];
+const SOURCES: [&str; 4] = ["list_reader", "packet_reader", "packet_writer", "tuned_list_reader"];
 const FLAGS: [&str; 5] = ["-O2", "-std=c11", "-Wall", "-Wextra", "-Werror"];
 
 fn run(command: &mut Command) {

@@ -1,5 +1,5 @@
-/* The writers: every packet type and payload length, the lists of the table of list cases
- * written again, rows and stores that describe no list, and buffers of every size. */
+/* The writers: every packet type and payload length, read back; the lists of the table of
+ * list cases, written again; rows and stores that describe no list; buffers of every size. */
 
 #include "checks.h"
 #include "cinder.h"
@@ -47,27 +47,85 @@ static void check_bench_packets(void)
                  sizeof data, "DEVICE_DATA");
 }
 
-/* Every type and payload length, and types whose low byte is that of one. */
-static void check_types_and_lengths(void)
+/* Payloads that differ in their zeros; the last kind has a checksum of 0. */
+enum payload_kind { SOME_ZEROS, NO_ZEROS, ALL_ZEROS, SUM_OF_ZERO, PAYLOAD_KINDS };
+
+static void put_payload_of(enum payload_kind kind, uint8_t type, uint8_t *payload, size_t length)
+{
+    put_payload(payload, length);
+    for (size_t at = 0; at < length && kind == NO_ZEROS; at++)
+        payload[at] |= 1;
+    for (size_t at = 0; at < length && kind == ALL_ZEROS; at++)
+        payload[at] = 0;
+    if (kind == SUM_OF_ZERO && length > 0) {
+        uint8_t message[PACKET_ROOM];
+        size_t end = message_with(type, payload, length, message);
+        payload[length - 1] ^= message[end - 1];
+    }
+}
+
+/* A packet that was written is read as its message, whatever the room above 256 bytes. */
+static void read_back(uint8_t type, const uint8_t *payload, size_t length, const uint8_t *packet,
+                      size_t size)
+{
+    static const char name[] = "read back";
+    uint8_t message[PACKET_ROOM];
+    size_t wanted = message_with(type, payload, length, message);
+    uint8_t *given = copy_of(packet, size);
+    for (size_t room = PACKET_ROOM; room <= PACKET_ROOM + 9; room += 9) {
+        uint8_t *found = new_buffer(room);
+        cinder_packet_result read = cinder_packet_decode(given, size, found, room);
+        check(read.error == 0, name, "error");
+        check(read.consumed == size, name, "consumed");
+        check(holds(found, room, message, wanted), name, "message buffer");
+        free(found);
+    }
+    free(given);
+}
+
+/* Writes into areas of every size; what is written must be the packet of the type and the
+ * payload, which is then read back. */
+static void write_and_read(uint64_t type, const uint8_t *payload, size_t length)
 {
     static const size_t rooms[] = {0, PACKET_ROOM - 1, PACKET_ROOM, PACKET_ROOM + 9};
-    static const uint64_t above[] = {0, 256, UINT64_C(1) << 32, UINT64_MAX - 255};
-    for (uint64_t type = 0; type <= 6; type++)
+    uint8_t packet[PACKET_ROOM];
+    int allowed = payload_allowed(type, length);
+    size_t size = allowed ? packet_with((uint8_t)type, payload, length, packet) : 0;
+    for (size_t at = 0; at < sizeof rooms / sizeof rooms[0]; at++) {
+        uint64_t error = rooms[at] < PACKET_ROOM ? 20 : allowed ? 0 : 8;
+        write_packet(type, payload, length, rooms[at], error, packet, size,
+                     "every type and payload length");
+    }
+    if (allowed)
+        read_back((uint8_t)type, payload, length, packet, size);
+}
+
+/* Every type that a byte can say with every payload length. */
+static void check_types_and_lengths(void)
+{
+    for (uint64_t type = 0; type <= UINT8_MAX; type++)
         for (size_t length = 0; length <= PAYLOADS; length++) {
             uint8_t payload[PAYLOADS];
-            uint8_t packet[PACKET_ROOM];
-            int allowed = payload_allowed(type, length);
-            put_payload(payload, length);
-            size_t size = allowed ? packet_with((uint8_t)type, payload, length, packet) : 0;
-            for (size_t at = 0; at < sizeof rooms / sizeof rooms[0]; at++) {
-                uint64_t error = rooms[at] < PACKET_ROOM ? 20 : allowed ? 0 : 8;
-                write_packet(type, payload, length, rooms[at], error, packet, size,
-                             "every type and payload length");
+            int kinds = payload_allowed(type, length) ? PAYLOAD_KINDS : 1;
+            for (int kind = 0; kind < kinds; kind++) {
+                put_payload_of(kind, (uint8_t)type, payload, length);
+                write_and_read(type, payload, length);
             }
-            for (size_t at = 1; at < sizeof above / sizeof above[0]; at++)
+        }
+}
+
+/* Types above a byte whose low byte is that of a type. */
+static void check_types_above(void)
+{
+    static const uint64_t above[] = {256, UINT64_C(1) << 32, UINT64_MAX - 255};
+    for (uint64_t type = PING; type <= LOG; type++)
+        for (size_t length = 0; length <= PAYLOADS; length++)
+            for (size_t at = 0; at < sizeof above / sizeof above[0]; at++) {
+                uint8_t payload[PAYLOADS];
+                put_payload(payload, length);
                 write_packet(type + above[at], payload, length, PACKET_ROOM, 8, NULL, 0,
                              "a type above a byte");
-        }
+            }
 }
 
 /* Writes rows and store into a buffer of this size; on success it must be `wanted`. */
@@ -228,6 +286,7 @@ int main(void)
     check_null();
     check_bench_packets();
     check_types_and_lengths();
+    check_types_above();
     for (size_t at = 0; at < list_case_count; at++)
         if (list_cases[at].error == 0) {
             check_case(&list_cases[at]);

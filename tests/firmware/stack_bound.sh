@@ -6,9 +6,12 @@
 # numbers than registers, the place of a large answer counted, has 16 bytes of arguments on
 # the stack. For x86-64.
 #
-# usage: stack_bound.sh ARCHIVE
+# With CALL and LIMIT it fails where CALL can take LIMIT bytes or more, or where what it calls
+# is not all in the archive and named.
+#
+# usage: stack_bound.sh ARCHIVE [CALL LIMIT]
 set -eu
-objdump -dr --no-show-raw-insn "$1" | awk '
+objdump -dr --no-show-raw-insn "$1" | awk -v call="${2-}" -v limit="${3-0}" '
 function hex(text, value, at) {
     value = 0
     for (at = 1; at <= length(text); at++)
@@ -21,7 +24,9 @@ function end_call() {
     pending = ""
 }
 function bound(name, list, count, at, most, below) {
+    if (name in indirect) unknown = 1
     if ((name in frame) == 0) {
+        unknown = 1
         outside[name] = 1
         return 8
     }
@@ -72,6 +77,12 @@ $2 == "call" || ($2 == "jmp" && $0 ~ /<.*>/ && $0 !~ /\+0x/) {
 }
 END {
     end_call()
+    if (call != "") {
+        most = bound(call)
+        printf "%s takes at most %d bytes of stack, %s\n", call, most,
+            unknown ? "and what is not known here" : most < limit ? "below " limit : "not below " limit
+        exit unknown || most >= limit
+    }
     printf "%-28s %8s\n", "function", "its own"
     for (name in frame)
         if (frame[name] > 0)

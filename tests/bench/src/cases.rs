@@ -6,9 +6,11 @@ use crate::hub;
 use crate::readers;
 #[cfg(feature = "text")]
 use crate::texts;
+#[cfg(feature = "writers")]
+use crate::writers;
 use std::hint::black_box;
 
-/// The second reader, the C readers, and the product.
+/// The second reader, the calls in C, and the product.
 #[derive(Clone, Copy, PartialEq, Debug)]
 pub enum Side {
     Reader,
@@ -65,6 +67,8 @@ pub fn all() -> Vec<Box<dyn Case>> {
     let mut cases: Vec<Box<dyn Case>> = Vec::new();
     #[cfg(any(feature = "packet", feature = "list", feature = "stream"))]
     cases.extend(readers::all());
+    #[cfg(feature = "writers")]
+    cases.extend(writers::all());
     #[cfg(feature = "hub")]
     cases.extend(hub::all());
     #[cfg(feature = "text")]

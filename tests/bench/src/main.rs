@@ -1,6 +1,6 @@
-//! Measures the archive's calls against the second reader, and the readers also against C
-//! readers, plain and tuned by hand, on the same inputs in one run: time for each call, then
-//! instructions for each call as callgrind counts them. For a stream, a call is the reading
+//! Measures the archive's calls against the second reader, and the readers and the writer of
+//! packets also against calls in C, plain and tuned by hand, on the same inputs in one run:
+//! time for each call, then instructions for each call as callgrind counts them. For a stream, a call is the reading
 //! of all of it. Buffers are not cleared between calls.
 //!
 //!   bench                            all cases
@@ -14,9 +14,10 @@
     feature = "list",
     feature = "stream",
     feature = "hub",
+    feature = "writers",
     feature = "text"
 )))]
-compile_error!("name the calls to measure: --features packet, list, stream, hub, text");
+compile_error!("name the calls to measure: --features packet, list, stream, hub, writers, text");
 
 mod cases;
 #[cfg(feature = "hub")]
@@ -24,15 +25,17 @@ mod hub;
 mod instructions;
 #[cfg(any(feature = "list", feature = "stream"))]
 mod lists;
-#[cfg(any(feature = "packet", feature = "hub"))]
+#[cfg(any(feature = "packet", feature = "hub", feature = "writers"))]
 mod packets;
-#[cfg(any(feature = "packet", feature = "list", feature = "stream"))]
+#[cfg(any(feature = "packet", feature = "list", feature = "stream", feature = "writers"))]
 mod plain;
 mod programs;
 #[cfg(any(feature = "packet", feature = "list", feature = "stream"))]
 mod readers;
 #[cfg(feature = "text")]
 mod texts;
+#[cfg(feature = "writers")]
+mod writers;
 
 use cases::{Case, Side};
 use std::process::ExitCode;

@@ -1,4 +1,4 @@
-//! The packets that are measured, read alone or received.
+//! The packets that are measured, read alone, received or written.
 
 use second_reader::packet;
 
@@ -8,17 +8,33 @@ pub fn packet_of(packet_type: u8, payload: &[u8]) -> Vec<u8> {
     buffer[..length].to_vec()
 }
 
-/// Packets of each kind; those called full have a payload of 251 bytes.
-#[cfg(feature = "packet")]
-pub fn all() -> Vec<(&'static str, Vec<u8>)> {
-    let of = packet_of;
+/// A message, by what is told of it.
+#[cfg(any(feature = "packet", feature = "writers"))]
+pub struct Message {
+    pub name: &'static str,
+    pub packet_type: u8,
+    pub payload: Vec<u8>,
+}
+
+/// Messages of each type; those called full have the longest payload of theirs.
+#[cfg(any(feature = "packet", feature = "writers"))]
+pub fn all() -> Vec<Message> {
+    let of = |name, packet_type, payload| Message { name, packet_type, payload };
     let mixed: Vec<u8> = (0..251).map(|at: u8| at % 5).collect();
     vec![
-        ("packet-ping", of(packet::PING, &[])),
-        ("packet-ack", of(packet::ACK, &[7, 6, 1, 2, 3, 4, 5, 6, 7, 8])),
-        ("packet-data", of(packet::DEVICE_DATA, &[5, 0, 0, 0, 7, 0, 0, 0, 1])),
-        ("packet-full", of(packet::LOG, &[11; 251])),
-        ("packet-full-with-zeros", of(packet::LOG, &mixed)),
-        ("packet-full-all-zeros", of(packet::LOG, &[0; 251])),
+        of("ping", packet::PING, vec![]),
+        of("ack", packet::ACK, vec![7, 6, 1, 2, 3, 4, 5, 6, 7, 8]),
+        of("data", packet::DEVICE_DATA, vec![5, 0, 0, 0, 7, 0, 0, 0, 1]),
+        of("data-full", packet::DEVICE_DATA, whole_numbers()),
+        of("full", packet::LOG, vec![11; 251]),
+        of("full-with-zeros", packet::LOG, mixed),
+        of("full-all-zeros", packet::LOG, vec![0; 251]),
     ]
+}
+
+/// All 32 parameters, each a number of one, two or three bytes and zeros behind.
+#[cfg(any(feature = "packet", feature = "writers"))]
+fn whole_numbers() -> Vec<u8> {
+    let values = (0..32_u32).map(|at| 200 << (at % 3 * 6));
+    std::iter::once(u32::MAX).chain(values).flat_map(u32::to_le_bytes).collect()
 }

@@ -1,4 +1,4 @@
-//! The C readers of plain/ as functions on slices, as the crate `archive` has the
+//! The C calls of plain/ as functions on slices, as the crate `archive` has the
 //! product's: the plain ones, and `tuned_` those tuned by hand.
 
 #[cfg(feature = "packet")]
@@ -14,6 +14,30 @@ pub fn packet_decode(bytes: &[u8], message: &mut [u8]) -> archive::PacketResult 
     }
     // SAFETY: each pointer and length come from one slice.
     unsafe { plain_packet_decode(bytes.as_ptr(), bytes.len(), message.as_mut_ptr(), message.len()) }
+}
+
+#[cfg(feature = "writers")]
+#[inline]
+pub fn packet_encode(packet_type: u64, payload: &[u8], packet: &mut [u8]) -> archive::WriteResult {
+    extern "C" {
+        fn plain_packet_encode(
+            packet_type: u64,
+            payload: *const u8,
+            payload_len: usize,
+            packet: *mut u8,
+            packet_len: usize,
+        ) -> archive::WriteResult;
+    }
+    // SAFETY: each pointer and length come from one slice.
+    unsafe {
+        plain_packet_encode(
+            packet_type,
+            payload.as_ptr(),
+            payload.len(),
+            packet.as_mut_ptr(),
+            packet.len(),
+        )
+    }
 }
 
 /// The function $name for the C function $c_name; $offset is there if the call has one.

@@ -17,7 +17,7 @@ use second_reader::stream::{self, Step};
 use std::hint::black_box;
 
 struct Reading {
-    name: &'static str,
+    name: String,
     bytes: Vec<u8>,
     call: Call,
     /// The message, or the rows.
@@ -41,7 +41,7 @@ type Outcome = ([u64; 5], Vec<u8>, Vec<u8>);
 
 impl Case for Reading {
     fn name(&self) -> &str {
-        self.name
+        &self.name
     }
 
     fn bytes(&self) -> usize {
@@ -222,15 +222,22 @@ fn of_list(result: archive::ListResult) -> [u64; 5] {
 /// Every case whose call is compiled in.
 pub fn all() -> Vec<Box<dyn Case>> {
     let mut cases: Vec<Box<dyn Case>> = Vec::new();
-    let mut add = |(name, bytes): (&'static str, Vec<u8>), call, first, store| {
+    let mut add = |name: String, bytes: Vec<u8>, call, first, store| {
         let (first, store) = (vec![0; first], vec![0; store]);
         cases.push(Box::new(Reading { name, bytes, call, first, store }));
     };
     #[cfg(feature = "packet")]
-    packets::all().into_iter().for_each(|case| add(case, Call::Packet, packet::PACKET_ROOM, 0));
+    for message in packets::all() {
+        let bytes = packets::packet_of(message.packet_type, &message.payload);
+        add(format!("packet-{}", message.name), bytes, Call::Packet, packet::PACKET_ROOM, 0);
+    }
     #[cfg(feature = "list")]
-    lists::all().into_iter().for_each(|case| add(case, Call::List, ROWS_ROOM, STORE_ROOM));
+    for (name, bytes) in lists::all() {
+        add(name.into(), bytes, Call::List, ROWS_ROOM, STORE_ROOM);
+    }
     #[cfg(feature = "stream")]
-    lists::streams().into_iter().for_each(|case| add(case, Call::Stream, ROWS_ROOM, STORE_ROOM));
+    for (name, bytes) in lists::streams() {
+        add(name.into(), bytes, Call::Stream, ROWS_ROOM, STORE_ROOM);
+    }
     cases
 }
