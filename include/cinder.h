@@ -250,7 +250,8 @@ cinder_value_result cinder_hub_read(const uint8_t *catalogue, size_t catalogue_l
 
 /*
  * Writes the packet of a type and a payload to the front of `packet`. What the payload
- * says is not judged.
+ * says is not judged. The bytes go straight there: the call makes no array, and on x86-64
+ * it takes less than 100 bytes of stack.
  *
  * On success error is 0 and written is the size of the packet: payload_len + 6 bytes.
  * Nothing behind them has changed.

@@ -2,7 +2,7 @@
 # Shows by the compiler's own listing (`rt mir`) that writing a packet makes no array: neither the C call nor what it calls has a local
 # that holds one. Then applies each edit of tests/listing/edits to a copy of its crate, whose listing must be refused with the line that
 # the edit expects. Exits with 1 where packet writing is refused or an edit is not.
-# Usage: tests/no_arrays.sh    (behind `rt check` or `rt ci`, so that the crates are proved)
+# Usage: tests/no_arrays.sh    (after `rt check` or `rt ci`, so that the crates are proved)
 set -euo pipefail
 cd "$(dirname "$0")/.."
 repository=$PWD
@@ -88,6 +88,8 @@ cargo build --release --offline --quiet --manifest-path tests/Cargo.toml --packa
 failed=0
 refused=0
 judge cinder "$writer" | tee "$room/reached" || failed=1
+# The C call itself writes nothing: what does must be among the functions.
+grep -q '^packet_encode::encode: .* locals$' "$room/reached" || { echo 'packet_encode::encode is not reached' && failed=1; }
 for edit in tests/listing/edits/*.edit; do
     name=$(basename "$edit" .edit)
     if why=$(try_edit "$name"); then

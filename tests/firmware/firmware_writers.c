@@ -18,7 +18,26 @@ static void check_answer(cinder_write_result found, uint64_t error, size_t writt
     check(found.written == written, name, "written");
 }
 
-/* Writes a packet into a buffer of this size; on success it must be `wanted`. */
+/* The bytes that were written are read as their message, whatever the room above 256 bytes. */
+static void read_back(uint8_t type, const uint8_t *payload, size_t length, const uint8_t *packet,
+                      size_t size, const char *name)
+{
+    uint8_t message[PACKET_ROOM];
+    size_t wanted = message_with(type, payload, length, message);
+    uint8_t *given = copy_of(packet, size);
+    for (size_t room = PACKET_ROOM; room <= PACKET_ROOM + 9; room += 9) {
+        uint8_t *found = new_buffer(room);
+        cinder_packet_result read = cinder_packet_decode(given, size, found, room);
+        check(read.error == 0, name, "error of reading back");
+        check(read.consumed == size, name, "consumed of reading back");
+        check(holds(found, room, message, wanted), name, "message buffer");
+        free(found);
+    }
+    free(given);
+}
+
+/* Writes a packet into a buffer of this size; on success it must be `wanted`, and is read
+ * back. */
 static void write_packet(uint64_t type, const uint8_t *payload, size_t length, size_t room,
                          uint64_t error, const uint8_t *wanted, size_t wanted_length,
                          const char *name)
@@ -28,6 +47,8 @@ static void write_packet(uint64_t type, const uint8_t *payload, size_t length, s
     size_t written = error == 0 ? wanted_length : 0;
     check_answer(cinder_packet_encode(type, given, length, packet, room), error, written, name);
     check(holds(packet, room, wanted, written), name, "packet buffer");
+    if (error == 0)
+        read_back((uint8_t)type, payload, length, packet, written, name);
     free(packet);
     free(given);
 }
@@ -64,28 +85,8 @@ static void put_payload_of(enum payload_kind kind, uint8_t type, uint8_t *payloa
     }
 }
 
-/* A packet that was written is read as its message, whatever the room above 256 bytes. */
-static void read_back(uint8_t type, const uint8_t *payload, size_t length, const uint8_t *packet,
-                      size_t size)
-{
-    static const char name[] = "read back";
-    uint8_t message[PACKET_ROOM];
-    size_t wanted = message_with(type, payload, length, message);
-    uint8_t *given = copy_of(packet, size);
-    for (size_t room = PACKET_ROOM; room <= PACKET_ROOM + 9; room += 9) {
-        uint8_t *found = new_buffer(room);
-        cinder_packet_result read = cinder_packet_decode(given, size, found, room);
-        check(read.error == 0, name, "error");
-        check(read.consumed == size, name, "consumed");
-        check(holds(found, room, message, wanted), name, "message buffer");
-        free(found);
-    }
-    free(given);
-}
-
-/* Writes into areas of every size; what is written must be the packet of the type and the
- * payload, which is then read back. */
-static void write_and_read(uint64_t type, const uint8_t *payload, size_t length)
+/* Writes into areas of every size. */
+static void write_into_areas(uint64_t type, const uint8_t *payload, size_t length)
 {
     static const size_t rooms[] = {0, PACKET_ROOM - 1, PACKET_ROOM, PACKET_ROOM + 9};
     uint8_t packet[PACKET_ROOM];
@@ -96,8 +97,6 @@ static void write_and_read(uint64_t type, const uint8_t *payload, size_t length)
         write_packet(type, payload, length, rooms[at], error, packet, size,
                      "every type and payload length");
     }
-    if (allowed)
-        read_back((uint8_t)type, payload, length, packet, size);
 }
 
 /* Every type that a byte can say with every payload length. */
@@ -109,7 +108,7 @@ static void check_types_and_lengths(void)
             int kinds = payload_allowed(type, length) ? PAYLOAD_KINDS : 1;
             for (int kind = 0; kind < kinds; kind++) {
                 put_payload_of(kind, (uint8_t)type, payload, length);
-                write_and_read(type, payload, length);
+                write_into_areas(type, payload, length);
             }
         }
 }

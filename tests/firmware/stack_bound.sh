@@ -6,8 +6,10 @@
 # numbers than registers, the place of a large answer counted, has 16 bytes of arguments on
 # the stack. For x86-64.
 #
-# With CALL and LIMIT it fails where CALL can take LIMIT bytes or more, or where what it calls
-# is not all in the archive and named.
+# With CALL and LIMIT it fails where CALL can take LIMIT bytes or more, or where that is not
+# known: it calls what is not in the archive or not named, a function calls itself, or moves
+# its stack pointer in another way. A jump through a register is taken for one within the
+# function, as a switch is compiled to.
 #
 # usage: stack_bound.sh ARCHIVE [CALL LIMIT]
 set -eu
@@ -24,7 +26,7 @@ function end_call() {
     pending = ""
 }
 function bound(name, list, count, at, most, below) {
-    if (name in indirect) unknown = 1
+    if (name in indirect || name in moved || (call != "" && name in itself)) unknown = 1
     if ((name in frame) == 0) {
         unknown = 1
         outside[name] = 1
@@ -64,6 +66,9 @@ $2 == "sub" && $3 ~ /^\$0x[0-9a-f]+,%rsp$/ {
     frame[now] += hex(size)
 }
 $2 == "and" && $3 ~ /,%rsp$/ { frame[now] += 64 }
+$3 ~ /,%rsp$/ && $2 !~ /^(sub|add|and|cmp|test)$/ { moved[now] = 1 }
+$2 == "sub" && $3 ~ /^%.*,%rsp$/ { moved[now] = 1 }
+$2 == "add" && $3 ~ /^\$0xf[0-9a-f]{15},%rsp$/ { moved[now] = 1 }
 match($0, /-0x[0-9a-f]+\(%rsp/) {
     size = int((hex(substr($0, RSTART + 3, RLENGTH - 8)) + 7) / 8) * 8
     if (size > below_pointer[now]) below_pointer[now] = size
@@ -79,8 +84,9 @@ END {
     end_call()
     if (call != "") {
         most = bound(call)
-        printf "%s takes at most %d bytes of stack, %s\n", call, most,
-            unknown ? "and what is not known here" : most < limit ? "below " limit : "not below " limit
+        if (unknown) how = "and what is not known here"
+        else how = (most < limit ? "below " : "not below ") limit
+        printf "%s takes at most %d bytes of stack, %s\n", call, most, how
         exit unknown || most >= limit
     }
     printf "%-28s %8s\n", "function", "its own"

@@ -59,3 +59,19 @@ pub call-complete : (s buffer : List ℕ) (type : ℕ) (payload : List ℕ) (con
 call-complete s buffer type payload consumed h w =
     sym (call-judged s buffer h (accepted type (length payload) consumed) (copyOf (messageOf type payload)) (sym (complete s type payload consumed w)))
     ∙ ap (λ (l : List ℕ). record { error = 0; consumed = consumed; message = over l buffer }) (take-at (messageOf type payload) _ (length payload + 3) (length-messageOf type payload))
+
+module _ (s buffer : List ℕ) (e : packetCall s buffer .error ≡ 0) where
+  -- packet reading gives no error only where there is room and the packet is not refused
+  pub passed : (PACKET_ROOM ≤ length buffer) × (packetError s ≡ 0)
+  unfolding refusal
+  passed = by (ltb (length buffer) PACKET_ROOM) (eqb (packetError s) 0) refl refl
+    where
+      none : (o : PacketOutcome) → o ≡ packetCall s buffer → o .error ≡ 0
+      none o g = ap (λ (x : PacketOutcome). x .error) g ∙ e
+
+      by : (less fine : Bool) → ltb (length buffer) PACKET_ROOM ≡ less → eqb (packetError s) 0 ≡ fine → (PACKET_ROOM ≤ length buffer) × (packetError s ≡ 0)
+      by true fine p q = absurd (omega (arith, none _ (call-small s buffer (ltb-true _ _ p))))
+      by false false p q =
+          let z = eqb-false _ _ q in
+          absurd (z (none _ (call-judged s buffer (ltb-false _ _ p) (refused (packetError s)) (copyOf []) (decoded-refused s (packetError s) refl z))))
+      by false true p q = (ltb-false _ _ p, eqb-true _ _ q)

@@ -3,23 +3,24 @@ use Prim.Native.Nat.{ℕ, _≤_, _<_}
 use mathlib.Core.Path.{_≡_, refl, sym, ap, _∙_}
 use mathlib.Core.Bool.{Bool, true, false, cond}
 use mathlib.Core.Logic.{_↔_}
-use mathlib.Core.List.{List, []}
+use mathlib.Core.List.{List, _++_}
 use native.Mathlib.Omega.{arith}
-use lib.Dec.{eqb, ltb}
+use lib.Dec.{ltb}
 use lib.ListN.{length, getD, take, drop}
-use borrow.Author.Tests.{lt-ltb, le-ltb, ltb-true, ltb-false, eqb-true, eqb-false}
+use lib.Seq.{take-at}
+use borrow.Author.Tests.{lt-ltb, le-ltb, ltb-true, ltb-false}
 use Rattle.wire.specs.Area.{over}
 use Rattle.packet.specs.TypeTable.{allowed}
 use Rattle.packet.specs.Message.{messageOf}
-use Rattle.packet.specs.Packet.{Reading, refused, PACKET_ROOM, copyOf, packetError, refusal, acceptance}
-use Rattle.packet.proofs.DecodeStages.{decoded-refused, decoded-good}
+use Rattle.packet.specs.Packet.{Reading, PACKET_ROOM, acceptance}
+use Rattle.packet.proofs.DecodeStages.{decoded-good}
 use Rattle.packet.proofs.Accepted.{sound}
 use Rattle.packet_encode.specs.Encode.{packetOf, Writing, encoded}
 use Rattle.packet_encode.proofs.EncodeStages.{encoded-small, encoded-unknown, encoded-good}
 use Rattle.packet_encode.proofs.RoundTrips.{writes-packet, payload-in, packet-encodes}
-use Rattle.cinder.specs.PacketCall.{PacketOutcome, packetCall}
+use Rattle.cinder.specs.PacketCall.{packetCall}
 use Rattle.cinder.specs.WriteCall.{WriteOutcome, wrote, notWritten, packetNumbers, packetWriteCall}
-use Rattle.cinder.proofs.PacketAnswers.{call-small, call-judged, call-complete}
+use Rattle.cinder.proofs.PacketAnswers.{call-complete, passed}
 use Rattle.cinder.proofs.WriteAnswers.{beside}
 
 -- what the call answers and leaves in the area, by what packet writing answers and leaves there
@@ -65,19 +66,17 @@ module _ (number : ℕ) (payload area : List ℕ) where
       → packetWriteCall number payload area ≡ record { answer = notWritten (cond (ltb (length area) PACKET_ROOM) 20 8); area = area }
   write-refused e = outcomes (λ h. small h ∙ simp (lt-ltb _ _ h)) (λ h a. unknown h a ∙ simp (le-ltb _ _ h)) (λ h a. absurd (e (error-of _ (good h a))))
 
-  -- LAW: what packet writing writes with no error, packet reading reads as that type and payload, and takes as many bytes as were written
-  pub written-read : (buffer : List ℕ) → packetWriteCall number payload area .answer .error ≡ 0 → PACKET_ROOM ≤ length buffer
-      → packetCall (packetWriteCall number payload area .area) buffer
-      ≡ record { error = 0; consumed = packetWriteCall number payload area .answer .written; message = over (messageOf number payload) buffer }
-  written-read buffer e room =
+  -- LAW: the bytes that packet writing writes with no error, with anything behind them, packet reading takes whole, as that type and payload
+  pub written-read : (later buffer : List ℕ) → packetWriteCall number payload area .answer .error ≡ 0 → PACKET_ROOM ≤ length buffer
+      → let w = packetWriteCall number payload area in
+      packetCall (take (w .answer .written) (w .area) ++ later) buffer
+      ≡ record { error = 0; consumed = w .answer .written; message = over (messageOf number payload) buffer }
+  written-read later buffer e room =
       let x = written-exactly .0 e in
-      rw (good (x .0) (x .1)) (call-complete _ buffer number payload _ room record {
-        bytes = packetOf number payload;
-        later = drop (length (packetOf number payload)) area;
-        split = refl;
-        packet = writes-packet number payload (x .1);
-        size = refl;
-      })
+      let p = packetOf number payload in
+      let whole : take (length p) (over p area) ≡ p = take-at p (drop (length p) area) (length p) refl in
+      rw (good (x .0) (x .1)) (ap (λ (l : List ℕ). packetCall (l ++ later) buffer) whole ∙ call-complete (p ++ later) buffer number payload (length p) room
+      record { bytes = p; later = later; split = refl; packet = writes-packet number payload (x .1); size = refl })
 
 module _ (type : ℕ) (payload buffer : List ℕ) where
   -- LAW: the message area's first byte is the type
@@ -93,21 +92,6 @@ module _ (type : ℕ) (payload buffer : List ℕ) where
   message-payload = payload-in type payload _
 
 module _ (s buffer : List ℕ) (e : packetCall s buffer .error ≡ 0) where
-  -- packet reading gives no error only where there is room and the packet is not refused
-  passed : (PACKET_ROOM ≤ length buffer) × (packetError s ≡ 0)
-  unfolding refusal
-  passed = by (ltb (length buffer) PACKET_ROOM) (eqb (packetError s) 0) refl refl
-    where
-      none : (o : PacketOutcome) → o ≡ packetCall s buffer → o .error ≡ 0
-      none o g = ap (λ (x : PacketOutcome). x .error) g ∙ e
-
-      by : (less fine : Bool) → ltb (length buffer) PACKET_ROOM ≡ less → eqb (packetError s) 0 ≡ fine → (PACKET_ROOM ≤ length buffer) × (packetError s ≡ 0)
-      by true fine p q = absurd (omega (arith, none _ (call-small s buffer (ltb-true _ _ p))))
-      by false false p q =
-          let z = eqb-false _ _ q in
-          absurd (z (none _ (call-judged s buffer (ltb-false _ _ p) (refused (packetError s)) (copyOf []) (decoded-refused s (packetError s) refl z))))
-      by false true p q = (ltb-false _ _ p, eqb-true _ _ q)
-
   -- LAW: what packet reading accepts, written again with the type, payload length and payload in the message area, gives the same bytes
   pub read-written : (area : List ℕ) → PACKET_ROOM ≤ length area
       → let m = packetCall s buffer .message in
@@ -115,6 +99,6 @@ module _ (s buffer : List ℕ) (e : packetCall s buffer .error ≡ 0) where
       ≡ record { answer = wrote (packetCall s buffer .consumed); area = over (take (packetCall s buffer .consumed) s) area }
   unfolding acceptance
   read-written area room =
-      let w = sound s _ _ _ (ap (λ (r : Reading). r .judgement) (sym (decoded-good s (passed .1)))) in
-      rw (call-complete s buffer _ (w .payload) _ (passed .0) (w .starts), message-payload _ (w .payload) buffer)
+      let w = sound s _ _ _ (ap (λ (r : Reading). r .judgement) (sym (decoded-good s (passed s buffer e .1)))) in
+      rw (call-complete s buffer _ (w .payload) _ (passed s buffer e .0) (w .starts), message-payload _ (w .payload) buffer)
       (writing-numbers _ (w .payload) area _ (packet-encodes s _ (w .payload) _ (w .starts) area room))

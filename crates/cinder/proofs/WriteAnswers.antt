@@ -4,16 +4,16 @@ use mathlib.Core.Path.{_≡_, refl, sym, ap, _∙_}
 use mathlib.Core.Bool.{Bool, true, false, cond}
 use mathlib.Core.List.{List}
 use native.Mathlib.Omega.{arith}
-use lib.Dec.{eqb, ltb}
+use lib.Dec.{ltb}
 use lib.ListN.{length}
-use borrow.Author.Tests.{ne-eqb, ltb-false}
-use Rattle.wire.specs.Area.{over}
+use borrow.Author.Tests.{ne-eqb, ltb-true, ltb-false}
 use Rattle.packet.specs.TypeTable.{PING, ACK, DEVICE_WRITE, DEVICE_DATA, LOG, allows, allowed}
 use Rattle.packet.specs.Packet.{PACKET_ROOM}
 use Rattle.packet.proofs.Lengths.{zero-none}
 use Rattle.packet_encode.specs.declared.Encoded as packet-code
 use Rattle.packet_encode.specs.Encode as packet
-use Rattle.packet_encode.specs.Encode.{packetOf, Writing, encodeError, encoded}
+use Rattle.packet_encode.specs.Encode.{Writing, encoded}
+use Rattle.packet_encode.proofs.EncodeStages.{encoded-small, encoded-unknown}
 use Rattle.list_encode.specs.declared.Encoded as list-code
 use Rattle.list_encode.specs.Encode as list
 use Rattle.cinder.specs.declared.write_call.WriteResult.{WriteResult}
@@ -38,16 +38,11 @@ above-none number n h =
 -- what is answered to a type that is none
 unknown : (type : ℕ) (payload area : List ℕ) → allowed type (length payload) ≡ false
     → encoded type payload area ≡ record { result = packet.refused (cond (ltb (length area) PACKET_ROOM) 20 8); buffer = area }
-unfolding encoded encodeError
-unknown type payload area e = rw e (go (ltb (length area) PACKET_ROOM))
+unknown type payload area e = go (ltb (length area) PACKET_ROOM) refl
   where
-    go : (small : Bool)
-        → _≡_ {A = Writing}
-        (cond (eqb (cond small 20 8) 0) (record { result = packet.written (length (packetOf type payload)); buffer = over (packetOf type payload) area })
-        (record { result = packet.refused (cond small 20 8); buffer = area }))
-        (record { result = packet.refused (cond small 20 8); buffer = area })
-    go true = refl
-    go false = refl
+    go : (small : Bool) → ltb (length area) PACKET_ROOM ≡ small → encoded type payload area ≡ record { result = packet.refused (cond small 20 8); buffer = area }
+    go true p = sym (encoded-small type payload area (ltb-true _ _ p))
+    go false p = sym (encoded-unknown type payload area (ltb-false _ _ p) e)
 
 -- LAW: a number above a byte is answered as 0 is, which is no type either
 pub byte-type : (number : ℕ) (payload area : List ℕ) → encoded (cond (ltb number 256) number 0) payload area ≡ encoded number payload area

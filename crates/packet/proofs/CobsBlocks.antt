@@ -7,7 +7,7 @@ use native.Mathlib.Omega.{arith}
 use lib.ListN.{length, length-append}
 use Rattle.wire.specs.Zero.{hasZero}
 use Rattle.packet.specs.Cobs.{Block, partOf, restored, Encodes, plain, lacking, decodedPart, codeOr, gapFrom, gapBefore, stuffed, encodedPart}
-use Rattle.packet.proofs.CobsSteps.{clash}
+use Rattle.packet.proofs.Zeros.{clash}
 use Rattle.packet.proofs.DecodeStages.{length-decodedPart}
 
 -- Decoding, from blocks to bytes.

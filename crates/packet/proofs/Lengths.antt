@@ -10,7 +10,7 @@ use borrow.Author.Tests.{eq-eqb, ne-eqb, le-leb, leb-true}
 use Rattle.wire.proofs.Chains.{and-right}
 use Rattle.packet.specs.TypeTable.{Row, row, typeTable, allows, allowed}
 use Rattle.packet.specs.Message.{messageOf}
-use Rattle.packet.proofs.CobsSteps.{clash}
+use Rattle.packet.proofs.Zeros.{clash}
 
 -- equal to k is from k to k
 pub exactly : (n k : ℕ) → eqb n k ≡ (leb k n && leb n k)

@@ -1,4 +1,4 @@
-pub mod CobsSteps
+pub mod Zeros
 pub mod Sums
 pub mod Walks
 pub mod CobsBlocks

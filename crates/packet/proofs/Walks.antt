@@ -13,7 +13,7 @@ use Rattle.wire.specs.Zero.{hasZero}
 use Rattle.wire.proofs.Buffers.{put-fits}
 use Rattle.packet.specs.Cobs.{plain, lacking, decodedPart}
 use Rattle.packet.specs.Message.{xorFrom}
-use Rattle.packet.proofs.CobsSteps.{clash}
+use Rattle.packet.proofs.Zeros.{clash}
 use Rattle.packet.proofs.Sums.{xor-clear}
 
 pub length-plain : (k : ℕ) (e : List ℕ) → length (plain k e) ≡ length e

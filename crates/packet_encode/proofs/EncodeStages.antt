@@ -34,7 +34,7 @@ unfolding gapBefore
 gap-le g [] = omega arith
 gap-le g (b ∷ m) = omega (arith, gapFrom-le b (gapBefore g m), gap-le g m)
 
-pub length-encodedPart : (kind : ℕ) (payload : List ℕ) → length (encodedPart (messageOf kind payload)) ≡ length payload + 4
+length-encodedPart : (kind : ℕ) (payload : List ℕ) → length (encodedPart (messageOf kind payload)) ≡ length payload + 4
 length-encodedPart kind payload = length-stuffed 0 (0 ∷ messageOf kind payload) ∙ omega (arith, length-messageOf kind payload)
 
 pub length-packetOf : (kind : ℕ) (payload : List ℕ) → length (packetOf kind payload) ≡ length payload + 6
@@ -97,7 +97,7 @@ module _ (kind : ℕ) (payload : List ℕ) where
   front = stuffed firstGap (0 ∷ kind ∷ length payload ∷ [])
 
   -- the packet as the code writes it: the front, the payload, the checksum's byte
-  pub packet-stages : packetOf kind payload ≡ 0 ∷ (length payload + 4) ∷ (front ++ (stuffed lastGap payload ++ (codeOr sumOf 0 ∷ [])))
+  packet-stages : packetOf kind payload ≡ 0 ∷ (length payload + 4) ∷ (front ++ (stuffed lastGap payload ++ (codeOr sumOf 0 ∷ [])))
   unfolding gapBefore stuffed
   packet-stages =
       ap (λ (n : ℕ). 0 ∷ n ∷ encodedPart (messageOf kind payload)) (length-encodedPart kind payload)
@@ -118,7 +118,7 @@ module _ (kind : ℕ) (payload : List ℕ) where
         ∙ drop-at (take (length payload + 5) buffer) _ (length payload + 5) (length-take-le (length payload + 5) buffer (omega arith))
         ∙ ap (λ (k : ℕ). codeOr sumOf 0 ∷ drop k buffer) e
 
-    pub length-closed : length closed ≡ length buffer
+    length-closed : length closed ≡ length buffer
     length-closed = length-set buffer (length payload + 5) (codeOr sumOf 0)
 
     behind : drop 5 loaded ≡ stuffed lastGap payload ++ (codeOr sumOf 0 ∷ drop (length payload + 6) buffer)

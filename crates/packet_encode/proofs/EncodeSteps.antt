@@ -7,6 +7,7 @@ use lib.ListN.{length, take, drop, getD, set, length-drop, length-append, take-a
 use lib.Seq.{drop-cons, drop-drop, drop-at, drop-length, take-all, take-take, take-suc, take-append-le, length-take-le, append-snoc, set-at}
 use borrow.Rule.Slice.PartMut.{putMid}
 use Rattle.packet.specs.Cobs.{codeOr, gapFrom, gapBefore, stuffed}
+use Rattle.packet_encode.specs.Word.{wordSize}
 use Rattle.packet_encode.proofs.EncodeStages.{length-stuffed, gap-le, code-kept, gap-kept, gap-append, stuffed-append}
 
 -- all from i on is encoded, where `gap` bytes follow the last one before the next 00; `code` is that of a block which opens before the i-th
@@ -111,10 +112,12 @@ module _ (gap : ℕ) (bytes part₀ part : List ℕ) (code i k w : ℕ) (inv : C
     next = n ∙ ap (λ (x : ℕ). suc (gapBefore x some)) g ∙ sym (ap (λ (m : List ℕ). suc (gapBefore gap m)) split ∙ ap suc (gap-append gap some behind));
   }
 
--- a word is its eight bytes
-pub eight : (w : List ℕ) → length w ≡ 8
-    → w ≡ getD w 0 0 ∷ getD w 1 0 ∷ getD w 2 0 ∷ getD w 3 0 ∷ getD w 4 0 ∷ getD w 5 0 ∷ getD w 6 0 ∷ getD w 7 0 ∷ []
-eight w l =
+-- the bytes of a word, before others
+abbrev pub spelled : List ℕ → List ℕ → List ℕ
+spelled w r = getD w 0 0 ∷ getD w 1 0 ∷ getD w 2 0 ∷ getD w 3 0 ∷ getD w 4 0 ∷ getD w 5 0 ∷ getD w 6 0 ∷ getD w 7 0 ∷ r
+
+pub word-spelled : (w : List ℕ) → length w ≡ wordSize → w ≡ spelled w []
+word-spelled w l =
     drop-cons w 0 0 (omega arith)
     ∙ ap (λ (r : List ℕ). getD w 0 0 ∷ r) (drop-cons w 1 0 (omega arith)
     ∙ ap (λ (r : List ℕ). getD w 1 0 ∷ r) (drop-cons w 2 0 (omega arith)
@@ -123,4 +126,4 @@ eight w l =
     ∙ ap (λ (r : List ℕ). getD w 4 0 ∷ r) (drop-cons w 5 0 (omega arith)
     ∙ ap (λ (r : List ℕ). getD w 5 0 ∷ r) (drop-cons w 6 0 (omega arith)
     ∙ ap (λ (r : List ℕ). getD w 6 0 ∷ r) (drop-cons w 7 0 (omega arith)
-    ∙ ap (λ (r : List ℕ). getD w 7 0 ∷ r) (drop-of-length-le w {i = 8} (omega arith)))))))))
+    ∙ ap (λ (r : List ℕ). getD w 7 0 ∷ r) (drop-of-length-le w {i = wordSize} (omega arith)))))))))

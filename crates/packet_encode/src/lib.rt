@@ -8,6 +8,7 @@ ghost use lib.ListN.{length, drop};
 ghost use Rattle.packet.specs.Message.{xorFrom};
 ghost use Rattle.packet.specs.Cobs.{codeOr, gapFrom, gapBefore, stuffed};
 ghost use Rattle.packet_encode.specs.Encode.{resultOf, encoded};
+ghost use Rattle.packet_encode.specs.Word.{wordSize};
 
 pub enum Encoded {
     // The number of bytes written.
@@ -19,7 +20,7 @@ pub enum Encoded {
 // The bytes of a word.
 const WORD: usize = 8;
 
-// The exclusive or of all bytes. It starts with none, so that the loop can run on many bytes at once.
+// The exclusive or of all bytes. It starts from 0, not from type and length, so that the loop can run on many bytes at once.
 fn xor_of(bytes: &[u8]) -> u8
     ensures { λ r. ⌜ r ≡ xorFrom 0 (now (bytes .entry)) ⌝ }
 {
@@ -32,7 +33,7 @@ fn xor_of(bytes: &[u8]) -> u8
     x
 }
 
-// The code at a place of the message is that of a block which would open there: one more than the bytes before the next zero.
+// The code at a place of the message is that of a block which would open there: one more than the bytes between it and the next zero.
 
 // What stands in the part for a byte: the code at its place for a zero, or the byte itself.
 fn code_or(byte: u8, code: usize) -> u8
@@ -66,9 +67,28 @@ fn encode_few(bytes: &[u8], last: usize, part: &mut [u8]) -> usize
     code
 }
 
-// Copies a word, which is eight bytes. All are read before one is written, so that the compiler can make one move of them.
+// As `encode_few`, where the part holds the bytes: only zeros are replaced.
+fn put_codes(bytes: &[u8], last: usize, part: &mut [u8]) -> usize
+    requires { ⌜ (now part ≡ now bytes) × (0 < last) × (last + length (now bytes) < 256) ⌝ }
+    ensures { λ r. ⌜ (r ≡ suc (gapBefore (last - 1) (now (bytes .entry)))) × (now (part .exit) ≡ stuffed (last - 1) (now (bytes .entry))) ⌝ }
+{
+    let mut code = last;
+    let mut i = bytes.len();
+    while 0 < i {
+        i -= 1;
+        if bytes[i] == 0 {
+            part[i] = code as u8;
+            code = 1;
+        } else {
+            code += 1;
+        }
+    }
+    code
+}
+
+// Copies a word. All bytes are read before one is written, so that the compiler can make one move of them.
 fn copy_word(word: &[u8], part: &mut [u8])
-    requires { ⌜ (length (now word) ≡ 8) × (length (now part) ≡ 8) ⌝ }
+    requires { ⌜ (length (now word) ≡ wordSize) × (length (now part) ≡ wordSize) ⌝ }
     ensures { λ _. ⌜ now (part .exit) ≡ now (word .entry) ⌝ }
 {
     let a = word[0];
@@ -89,35 +109,16 @@ fn copy_word(word: &[u8], part: &mut [u8])
     part[7] = h;
 }
 
-// The same where the part already holds the bytes: only zeros are replaced.
-fn put_codes(bytes: &[u8], last: usize, part: &mut [u8]) -> usize
-    requires { ⌜ (now part ≡ now bytes) × (0 < last) × (last + length (now bytes) < 256) ⌝ }
-    ensures { λ r. ⌜ (r ≡ suc (gapBefore (last - 1) (now (bytes .entry)))) × (now (part .exit) ≡ stuffed (last - 1) (now (bytes .entry))) ⌝ }
-{
-    let mut code = last;
-    let mut i = bytes.len();
-    while 0 < i {
-        i -= 1;
-        if bytes[i] == 0 {
-            part[i] = code as u8;
-            code = 1;
-        } else {
-            code += 1;
-        }
-    }
-    code
-}
-
-// The same for a word. Most bytes stand for themselves, so it is copied whole first.
+// As `encode_few`, for a word. Most bytes stand for themselves, so it is copied whole first.
 fn encode_word(word: &[u8], last: usize, part: &mut [u8]) -> usize
-    requires { ⌜ (length (now word) ≡ 8) × (length (now part) ≡ 8) × (0 < last) × (last + 8 < 256) ⌝ }
+    requires { ⌜ (length (now word) ≡ wordSize) × (length (now part) ≡ wordSize) × (0 < last) × (last + wordSize < 256) ⌝ }
     ensures { λ r. ⌜ (r ≡ suc (gapBefore (last - 1) (now (word .entry)))) × (now (part .exit) ≡ stuffed (last - 1) (now (word .entry))) ⌝ }
 {
     copy_word(word, &mut *part);
     put_codes(word, last, &mut *part)
 }
 
-// The same for any number of bytes: word by word, and those that are left at the front one by one.
+// As `encode_few`, word by word; what is left at the front goes byte by byte.
 fn encode_bytes(bytes: &[u8], last: usize, part: &mut [u8]) -> usize
     requires { ⌜ (length (now bytes) ≡ length (now part)) × (0 < last) × (last + length (now bytes) < 256) ⌝ }
     ensures { λ r. ⌜ (r ≡ suc (gapBefore (last - 1) (now (bytes .entry)))) × (now (part .exit) ≡ stuffed (last - 1) (now (bytes .entry))) ⌝ }
@@ -131,7 +132,7 @@ fn encode_bytes(bytes: &[u8], last: usize, part: &mut [u8]) -> usize
     encode_few(&bytes[0..i], code, &mut part[0..i])
 }
 
-// Writes 00, the length byte, the first code, type and payload length, where `code` is the code at the place of the last.
+// Writes 00, the length byte, the first code, type and payload length, where `code` is the code at the place of the last. No type is 0.
 fn put_front(buffer: &mut [u8], kind: u8, n: usize, code: usize)
     requires { ⌜ (5 ≤ length (now buffer)) × (0 < kind) × (n ≤ 251) × (0 < code) × (code < 254) ⌝ }
     ensures { λ _. ⌜ now (buffer .exit) ≡ 0 ∷ (n + 4) ∷ (stuffed (code - 1) (0 ∷ kind ∷ n ∷ []) ++ drop 5 (now (buffer .entry))) ⌝ }
@@ -156,7 +157,7 @@ pub fn encode(kind: u8, payload: &[u8], buffer: &mut [u8]) -> Encoded
         return Encoded::Refused(8);
     }
     if n == 0 {
-        // The checksum is the type, and no byte is left to encode.
+        // Written at once, for speed: the checksum is the type.
         buffer[5] = kind;
         put_front(&mut *buffer, kind, 0, 2);
         return Encoded::Written(6);

@@ -2,32 +2,13 @@
  * Reads a packet by decoding it to a buffer of its own, which is copied to the message
  * once it is judged: so the blocks are gone through once.
  */
+#include "packet.h"
 #include "plain.h"
 
-#include <stdbool.h>
 #include <string.h>
 
-enum { PING = 1, ACK = 2, DEVICE_WRITE = 3, DEVICE_DATA = 4, LOG = 5 };
-
-/* 00 and the length byte; the encoded part of an empty payload. */
-enum { HEADER = 2, ENCODED_LOWEST = 4, MESSAGE_LIMIT = 254 };
-
-static bool payload_allowed(uint8_t type, size_t length)
-{
-    switch (type) {
-    case PING:
-        return length == 0;
-    case ACK:
-        return length == 10;
-    case DEVICE_WRITE:
-    case DEVICE_DATA:
-        return length >= 4 && length <= 132;
-    case LOG:
-        return true;
-    default:
-        return false;
-    }
-}
+/* The message of the longest payload. */
+enum { MESSAGE_LIMIT = PAYLOAD_LIMIT + 3 };
 
 /* The exclusive or of all bytes, eight at a time. */
 static uint8_t exclusive_or(const uint8_t *bytes, size_t length)

@@ -2,31 +2,8 @@
  * Writes a packet in one pass: a byte goes to its place in the packet, a zero closes the block
  * that is open. The code of a block is written once the block is closed.
  */
+#include "packet.h"
 #include "plain.h"
-
-#include <stdbool.h>
-
-enum { PING = 1, ACK = 2, DEVICE_WRITE = 3, DEVICE_DATA = 4, LOG = 5 };
-
-/* 00 and the length byte; code, type, payload length and checksum. */
-enum { HEADER = 2, ENCODED_LOWEST = 4, PAYLOAD_LIMIT = 251 };
-
-static bool payload_allowed(uint64_t type, size_t length)
-{
-    switch (type) {
-    case PING:
-        return length == 0;
-    case ACK:
-        return length == 10;
-    case DEVICE_WRITE:
-    case DEVICE_DATA:
-        return length >= 4 && length <= 132;
-    case LOG:
-        return length <= PAYLOAD_LIMIT;
-    default:
-        return false;
-    }
-}
 
 /* Where the next byte goes, and the code of the block that is open. */
 struct cursor {

@@ -1,7 +1,7 @@
 //! Measures the archive's calls against the second reader, and the readers and the writer of
 //! packets also against calls in C, plain and tuned by hand, on the same inputs in one run:
-//! time for each call, then instructions for each call as callgrind counts them. For a stream, a call is the reading
-//! of all of it. Buffers are not cleared between calls.
+//! time for each call, then instructions for each call as callgrind counts them. For a
+//! stream, a call is the reading of all of it. Buffers are not cleared between calls.
 //!
 //!   bench                            all cases
 //!   bench --no-instructions          time only

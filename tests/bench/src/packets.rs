@@ -2,13 +2,14 @@
 
 use second_reader::packet;
 
+#[cfg(any(feature = "packet", feature = "hub"))]
 pub fn packet_of(packet_type: u8, payload: &[u8]) -> Vec<u8> {
     let mut buffer = [0; packet::PACKET_ROOM];
     let length = packet::encode(packet_type.into(), payload, &mut buffer).expect("a good packet");
     buffer[..length].to_vec()
 }
 
-/// A message, by what is told of it.
+/// The name of a case, and its message's type and payload.
 #[cfg(any(feature = "packet", feature = "writers"))]
 pub struct Message {
     pub name: &'static str,
@@ -32,7 +33,7 @@ pub fn all() -> Vec<Message> {
     ]
 }
 
-/// All 32 parameters, each a number of one, two or three bytes and zeros behind.
+/// All 32 parameters, each a number below 2^20, so that most of its bytes are zeros.
 #[cfg(any(feature = "packet", feature = "writers"))]
 fn whole_numbers() -> Vec<u8> {
     let values = (0..32_u32).map(|at| 200 << (at % 3 * 6));

@@ -56,7 +56,7 @@ impl Case for Writing {
 }
 
 impl Writing {
-    /// Error and bytes written of one side, and the packet area, which is as new before.
+    /// Error and bytes written of one side, and the packet area, which held one byte all over.
     fn outcome(&mut self, side: Side) -> ([u64; 2], Vec<u8>) {
         let Writing { packet_type, payload, packet, .. } = self;
         packet.fill(0xa5);

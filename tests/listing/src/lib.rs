@@ -1,10 +1,12 @@
 //! The compiler's listing of a crate and of all that it depends on, as `rt mir` prints it:
 //! the functions that one function reaches by its calls, and whether one of them makes an
-//! array, that is, has a local that holds one by value. What is not understood is a fault.
+//! array: has a local that holds one by value, or moves one through a pointer. What is not
+//! understood is a fault.
 
 mod body;
 mod tree;
 mod types;
+mod values;
 
 use std::collections::{BTreeMap, BTreeSet};
 use tree::{Node, Tree};
@@ -23,7 +25,7 @@ struct Function<'t> {
 }
 
 pub struct Reached {
-    /// Each function with its number of locals, in the order in which calls lead to them.
+    /// Each function with its number of locals.
     pub functions: Vec<(String, usize)>,
     pub faults: Vec<String>,
 }
@@ -62,8 +64,7 @@ impl<'t> Listing<'t> {
 
     /// The functions that a function calls, and its own faults.
     fn judge(&self, function: &Function<'t>) -> (Vec<&'t str>, Vec<String>) {
-        let is_function = |name: &str| self.functions.contains_key(name);
-        let (callees, mut faults) = body::calls(&self.tree, function.body, is_function);
+        let (callees, mut faults) = body::calls(&self.tree, function.body, &function.described);
         for (number, &local) in function.locals.iter().enumerate() {
             if let Some(fault) = types::fault(&self.tree, &function.described, local) {
                 faults.push(format!("local {number} {fault}"));

@@ -62,6 +62,10 @@ fn faults_of_body(body: &str) -> Vec<String> {
     ]))
 }
 
+fn faults_of_value(value: &str) -> Vec<String> {
+    faults_of_body(&format!("(assign (place 0 lnil) {value})"))
+}
+
 fn faults_of_local(local: &str, described: &[String]) -> Vec<String> {
     faults(&program(&[function("a::root", &[UNIT, local], "return", described)]))
 }
@@ -69,12 +73,9 @@ fn faults_of_local(local: &str, described: &[String]) -> Vec<String> {
 fn good() -> String {
     let slice = format!("(tyStruct \"&[]\" {})", fields(&["(tyRef (named 0) imm (tyInt 8))"]));
     let inner = "(tyNamed (pair \"a::Inner\" (lcons (boundLv 0) (lcons static lnil))))";
-    let body = format!(
-        "(seq (block (loop (if (copy (place 1 lnil)) {} (exit 1)))) (switch (int 8 1) (arm (lcons 1 lnil) {} (default {}))))",
-        call("a::one"),
-        call("b::two"),
-        call("a::one"),
-    );
+    let branch = format!("(if (copy (place 1 lnil)) {} (exit 1))", call("a::one"));
+    let arms = format!("(arm (lcons 1 lnil) {} (default {}))", call("b::two"), call("a::one"));
+    let body = format!("(seq (block (loop {branch})) (switch (int 8 1) {arms}))");
     let described = [
         described_enum("a::Answer", &[fields(&[inner, "(tyInt 64)"]), fields(&[])]),
         described_struct("a::Inner", &["tyPtr", "(tyFloat 64)", LENT_ARRAY]),
@@ -144,13 +145,57 @@ fn hidden_callees() {
 
 #[test]
 fn functions_named_elsewhere() {
-    let named = "a::root: names a::leaf elsewhere than as a call's target";
-    let taken = "a::root: takes a function's address";
-    assert_eq!(faults_of_body("(assign (place 0 lnil) (address \"a::leaf\"))"), [named]);
-    assert_eq!(faults_of_body("(assign (place 0 lnil) (rvOpd (fnRef \"b::other\")))"), [taken]);
+    let taken = ["a::root: a function's address is taken"];
+    assert_eq!(faults_of_value("(rvOpd (fnRef \"a::leaf\"))"), taken);
     let lent = "(lcons (fnRef \"a::leaf\") lnil)";
     let body = format!("(call (direct (fnRef \"a::leaf\")) {lent} (place 0 lnil))");
-    assert_eq!(faults_of_body(&body), [named, taken]);
+    assert_eq!(faults_of_body(&body), taken);
+}
+
+#[test]
+fn known_values() {
+    let local = "(copy (place 0 (lcons (variant 0) (lcons (field 1) lnil))))";
+    let lent = "(copy (place 1 (lcons (deref (tyInt 8)) lnil)))";
+    for value in [
+        format!("(op1 (cast unsigned unsigned 8) {local})"),
+        format!("(op2 (add unsigned) {lent} (int 8 1))"),
+        format!("(op2 offset {local} (int 64 0))"),
+        "(addrOf (place 1 (lcons (deref (tyInt 8)) lnil)))".to_string(),
+        format!("(aggregate (lcons {local} (lcons true lnil)))"),
+    ] {
+        assert_eq!(faults_of_value(&value), [""; 0], "{value}");
+    }
+}
+
+#[test]
+fn unknown_values() {
+    let unknown = ["a::root: a value is of unknown form"];
+    for value in [
+        "(address \"a::leaf\")",
+        "(rvOpd (text \"a\"))",
+        "(op1 (apply \"a::leaf\") (int 8 1))",
+        "(op2 (add unsigned) (int 8 1))",
+        "(addrOf (index 1 2))",
+        "(aggregate (int 8 1))",
+        "(rvOpd (copy (place 1 (lcons (index 2) lnil))))",
+    ] {
+        assert_eq!(faults_of_value(value), unknown, "{value}");
+    }
+    let branch = "(if (fresh 1) skip skip)";
+    assert_eq!(faults_of_body(branch), unknown);
+}
+
+#[test]
+fn arrays_in_values() {
+    assert_eq!(
+        faults_of_value("(repeat (int 8 0) 4)"),
+        ["a::root: a value is repeated into an array"]
+    );
+    let moved = format!("(rvOpd (copy (place 1 (lcons (deref {ARRAY}) lnil))))");
+    let led = ["a::root: what a pointer leads to holds an array"];
+    assert_eq!(faults_of_value(&moved), led);
+    let place = format!("(place 1 (lcons (deref {ARRAY}) lnil))");
+    assert_eq!(faults_of_body(&format!("(assign {place} (aggregate lnil))")), led);
 }
 
 #[test]

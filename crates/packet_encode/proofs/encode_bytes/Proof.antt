@@ -1,4 +1,4 @@
--- `encode_bytes` encodes from the back, eight bytes at once. The invariant is that of `encode_few`.
+-- `encode_bytes` encodes from the back, a word at once. The invariant is that of `encode_few`.
 use Prim.Native.Nat.{ℕ, _+_, _-_, _≤_}
 use mathlib.Core.Path.{_≡_, sym, _∙_}
 use mathlib.Core.List.{List}
@@ -7,6 +7,7 @@ use lib.ListN.{length, take, drop, length-drop}
 use lib.Seq.{length-take-le}
 use borrow.Author.Needs.{needs}
 use borrow.Rule.Slice.PartMut.{putMid}
+use Rattle.packet_encode.specs.Word.{wordSize}
 use Rattle.packet_encode.proofs.EncodeSteps.{Coding, coding, coding-within, coding-length, coding-part, coding-end}
 use Rattle.packet_encode.proofs.encode_bytes.Statement.{statement}
 use Rattle.packet_encode.proofs.encode_bytes.Tie as tie
@@ -46,9 +47,9 @@ part-encode-word-end-2 c = let l = c .before .before in omega (arith, within l, 
 encode-word-requires : tie.Need-encode-word-requires Inv-loop μ-loop
 encode-word-requires c κs = let l = c .before .before .before in let s = l .before .before .before in
     let i = l .loop .i in
-    let w : i - 8 + 8 - (i - 8) ≡ 8 = omega arith in (
-      part-length (i - 8) (i - 8 + 8) (s .args .bytes .now) (omega arith) (omega (arith, within l)) ∙ w,
-      part-length (i - 8) (i - 8 + 8) (l .loop .part) (omega arith) (omega (arith, within l, long l, s .pre .0)) ∙ w,
+    let w : i - wordSize + wordSize - (i - wordSize) ≡ wordSize = omega arith in (
+      part-length (i - wordSize) (i - wordSize + wordSize) (s .args .bytes .now) (omega arith) (omega (arith, within l)) ∙ w,
+      part-length (i - wordSize) (i - wordSize + wordSize) (l .loop .part) (omega arith) (omega (arith, within l, long l, s .pre .0)) ∙ w,
       omega (arith, l .loop .inv .next),
       omega (arith, room l, s .pre .2),
     )
@@ -56,7 +57,7 @@ encode-word-requires c κs = let l = c .before .before .before in let s = l .bef
 loop-again : tie.Need-loop-again Inv-loop μ-loop
 loop-again c = let w = c .before .before in let l = w .before .before .before .before in let s = l .before .before .before in
     let i = l .loop .i in
-    let e : i ≡ i - 8 + (i - 8 + 8 - (i - 8)) = omega arith in
+    let e : i ≡ i - wordSize + (i - wordSize + wordSize - (i - wordSize)) = omega arith in
     coding-part _ _ _ _ _ _ _ _ (l .loop .inv) e (s .pre .0) _ _ (w .encode-word .ensures .0) (w .encode-word .ensures .1)
 
 part-encode-few-end : tie.Need-part-encode-few-end Inv-loop μ-loop

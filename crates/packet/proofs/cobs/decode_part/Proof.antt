@@ -7,7 +7,7 @@ use lib.ListN.{length, getD, set, drop}
 use borrow.Author.Needs.{needs}
 use borrow.Author.Tests.{eqb-true}
 use Rattle.packet.specs.Cobs.{decodedPart}
-use Rattle.packet.proofs.CobsSteps.{zero-at}
+use Rattle.packet.proofs.Zeros.{zero-at}
 use Rattle.packet.proofs.Walks.{Fill, copied, copied-length, copied-behind, fill-start, fill-next, fill-one, fill-again, fill-on, fill-end}
 use Rattle.packet.proofs.cobs.decode_part.Statement.{statement}
 use Rattle.packet.proofs.cobs.decode_part.Tie as tie

@@ -6,7 +6,7 @@ use lib.Bits.{bitXor}
 use lib.ListN.{length, getD}
 use borrow.Author.Needs.{needs}
 use Rattle.packet.specs.Message.{xorFrom}
-use Rattle.packet.proofs.CobsSteps.{zero-at}
+use Rattle.packet.proofs.Zeros.{zero-at}
 use Rattle.packet.proofs.Walks.{Walk, halfway, walk-start, walk-next, sum-next, walk-end}
 use Rattle.packet.proofs.cobs.walk.Statement.{statement}
 use Rattle.packet.proofs.cobs.walk.Tie as tie

@@ -1,4 +1,4 @@
--- What the loops over a part rest on: a part without a 00 has none at any place.
+-- A part without a 00 has none at any place; and a Boolean is not both.
 use Prim.Native.Nat.{ℕ, zero, suc, _≤_, _<_}
 use mathlib.Core.Path.{_≡_}
 use mathlib.Core.Bool.{true, false}
