@@ -1,4 +1,4 @@
--- Laws of the list at the front: its bytes may be cut at the limit, and an empty list and ints are judged at once.
+-- Laws of the list at the front: its bytes may be cut at the limit, and an empty list and a typed one are judged at once.
 use Prim.Native.Nat.{ℕ, _+_, _-_, _*_, _^_, _≤_, _<_, min}
 use mathlib.Core.Path.{_≡_, refl, sym, ap, _∙_}
 use mathlib.Core.Bool.{Bool, true, false}
@@ -8,12 +8,13 @@ use lib.Dec.{ltb}
 use lib.ListN.{length, take}
 use lib.Seq.{take-all}
 use borrow.Author.Tests.{ltb-true, ltb-false, lt-leb}
+use Rattle.list.specs.declared.Kind.{Kind}
 use Rattle.list.specs.declared.Kind.the-variants.{Int}
 use Rattle.list.specs.Limits.{listLimit, depthLimit}
 use Rattle.list.specs.Kind.{listCode, typedCode}
 use Rattle.list.specs.Refusal.{refusal}
 use Rattle.list.specs.Bytes.{codeFor}
-use Rattle.list.specs.Parse.{word, isListCode, listAt, parse}
+use Rattle.list.specs.Parse.{word, typedAt, isListCode, listAt, parse}
 use Rattle.list.proofs.Codes.{mixed-is-code, typed-is-code}
 use Rattle.list.proofs.TypedRun.{typed-run}
 use Rattle.list.proofs.Cut.{cut}
@@ -48,10 +49,12 @@ module _ (s : List ℕ) (short : length s ≤ listLimit) (in₈ : 8 ≤ length s
       ∙ is-mixed depthLimit s 0 code count (λ e. omega arith) short in₈ n (lt-leb (2 ^ 31) count (omega arith)) c
       ∙ mixed-done _ s 0 count 0 8 (omega arith)
 
+  -- a typed list that has an element
+  pub front-typed : (k : Kind) → code ≡ typedCode k → 0 < count → count < 2 ^ 31 → judged (parse listLimit s) ≡ judged (typedAt listLimit s k count 8)
+  front-typed k c some low =
+      front-list (ap isListCode c ∙ typed-is-code k)
+      ∙ sym (is-typed depthLimit s 0 code count (λ e. omega arith) short in₈ n (lt-leb (2 ^ 31) count low) k c)
+      ∙ sym (typed-some s k 0 count 8 some)
+
   pub front-ints : code ≡ typedCode Int → 0 < count → 8 + 4 * count ≤ length s → judged (parse listLimit s) ≡ accepted (8 + 4 * count)
-  front-ints c some h =
-      let l = ap isListCode c ∙ typed-is-code Int in
-      front-list l
-      ∙ sym (is-typed depthLimit s 0 code count (λ e. omega arith) short in₈ n (lt-leb (2 ^ 31) count (omega arith)) Int c)
-      ∙ sym (typed-some s Int 0 count 8 some)
-      ∙ ap judged (typed-run listLimit s Int count 8 tt (omega arith) h)
+  front-ints c some h = front-typed Int c some (omega arith) ∙ ap judged (typed-run listLimit s Int count 8 tt (omega arith) h)

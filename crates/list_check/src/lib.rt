@@ -355,8 +355,13 @@ fn front_fault(s: &[u8]) -> Judged
     refuse(22, 0)
 }
 
-// The list at the front of bytes that are cut at the limit. The empty list, which a hub with no devices publishes, and ints
-// are judged without a call of the recursive checker.
+// The codes of an outermost list of ints and of one of blobs.
+const INTS: u32 = LIST_CODE + Kind::INT;
+
+const BLOBS: u32 = LIST_CODE + Kind::BLOB;
+
+// The list at the front of bytes that are cut at the limit. The empty list, which a hub with no devices publishes, ints and
+// blobs are judged without a call of the recursive checker.
 fn check_front(s: &[u8]) -> Judged
     requires { ⌜ length (now s) ≤ listLimit ⌝ }
     ensures { λ r. ⌜ toldBy r ≡ judged (parse listLimit (now (s .entry))) ⌝ }
@@ -366,23 +371,34 @@ fn check_front(s: &[u8]) -> Judged
     }
     let code = u32_at(s, 0);
     let count = u32_at(s, NUMBER);
-    if code == LIST_CODE {
-        if count == 0 {
-            return 2 * NUMBER;
+    match code {
+        BLOBS => {
+            if 0 < count {
+                if count < NEGATIVE {
+                    return check_each(s, 2 * NUMBER, false, count as usize);
+                }
+            }
         }
-    }
-    if code == LIST_CODE + Kind::INT {
-        let end = 2 * NUMBER + NUMBER * (count as usize);
-        if 0 < count {
-            if end <= s.len() {
-                return end;
+        INTS => {
+            if 0 < count {
+                let end = 2 * NUMBER + NUMBER * (count as usize);
+                if end <= s.len() {
+                    return end;
+                }
+            }
+        }
+        LIST_CODE => {
+            if count == 0 {
+                return 2 * NUMBER;
+            }
+        }
+        _ => {
+            if !is_list_code(code) {
+                return refuse(22, 0);
             }
         }
     }
-    if is_list_code(code) {
-        return check_list(s, 0, code, count, DEPTH_LIMIT);
-    }
-    refuse(22, 0)
+    check_list(s, 0, code, count, DEPTH_LIMIT)
 }
 
 // Where an item must end: at the limit, or where the bytes end.

@@ -9,7 +9,7 @@ use borrow.Rule.Slice.PartMut.{midOf, putMid, mid-len}
 use Rattle.wire.specs.Area.{blockSize, putAt, replaced}
 use Rattle.wire.specs.Number.{numberAt}
 use Rattle.wire.proofs.Numbers.{part-number}
-use Rattle.wire.proofs.Buffers.{put-fits, put-part, replaced-all, sets-more, sets-front}
+use Rattle.wire.proofs.Buffers.{put-fits, put-is, put-part, joined, replaced-all, sets-more, sets-front}
 use Rattle.list.specs.Parse.{word}
 use Rattle.list.specs.RowBytes.{packed}
 use Rattle.list.proofs.RowBytes.{packed-append}
@@ -34,6 +34,17 @@ part-put area at e xs part h f p =
     let d : drop (length xs) m ≡ [] = drop-of-length-le m k in
     let w : part ≡ xs = p ∙ put-fits m 0 xs (omega arith) ∙ sets-front m xs (omega arith) ∙ ap (λ (l : List ℕ). xs ++ l) d ∙ append-nil xs in
     rw w (part-sets area at e xs h f)
+
+-- and after two calls, of which the second puts ys behind xs
+pub part-puts : (area : List ℕ) (at e n : ℕ) (xs ys part part′ : List ℕ) → n ≡ length xs → e ≡ at + length (xs ++ ys) → e ≤ length area
+    → part ≡ putAt (midOf at (e - at) area) 0 xs → part′ ≡ putAt part n ys → putMid at (e - at) area part′ ≡ sets area at (xs ++ ys)
+part-puts area at e n xs ys part part′ k h f p q =
+    let m : List ℕ = midOf at (e - at) area in
+    let l : length m ≡ length xs + length ys = mid-len at e area f ∙ omega (arith, length-append xs ys) in
+    let w : part ≡ sets m 0 xs = put-is m 0 xs p (omega arith) in
+    let r : n + length ys ≤ length part = omega (arith, ap length w ∙ length-sets m 0 xs) in
+    part-put area at e (xs ++ ys) part′ h f
+    (joined m 0 n xs ys (omega arith) w (put-is part n ys q r) ∙ sym (put-fits m 0 (xs ++ ys) (omega (arith, length-append xs ys))))
 
 pub part-run : (area : List ℕ) (at e : ℕ) (xs part : List ℕ) → e ≡ at + length xs → e ≤ length area → length xs ≤ blockSize
     → part ≡ replaced (midOf at (e - at) area) xs → putMid at (e - at) area part ≡ sets area at xs

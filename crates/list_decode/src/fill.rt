@@ -1,5 +1,6 @@
 // Writes the rows and the store bytes of a list that was judged.
 use crate::put::Cursor;
+use crate::put::put_float;
 use crate::put::put_plain;
 use crate::put::put_stored;
 use crate::run::put_run;
@@ -17,7 +18,7 @@ fn put_typed(s: &[u8], x: Cursor, code: u32, n: u32, rows: &mut [u8], store: &mu
     requires { ⌜ ReadyTyped (now s) code n x (now rows) (now store) ⌝ }
     ensures { λ r. ⌜ Written x (listPiece (now (s .entry)) (kindOf code) n (x .used) (x .pos)) (now (rows .entry)) (now (store .entry)) r (now (rows .exit)) (now (store .exit)) ⌝ }
 {
-    let y = put_plain(rows, x, LIST_CODE, n, 0, 2 * NUMBER);
+    let y = put_plain(rows, x, LIST_CODE, n, 2 * NUMBER);
     put_run(s, y, code, n as usize, rows, store)
 }
 
@@ -37,19 +38,12 @@ fn put_element(s: &[u8], x: Cursor, rows: &mut [u8], store: &mut [u8]) -> Cursor
     };
     let second = u32_at(&s[first..third], 0);
     match code {
-        Kind::INT => put_plain(rows, behind, Kind::INT, second, 0, NUMBER),
-        Kind::VOCAB => put_plain(rows, behind, Kind::VOCAB, second, 0, NUMBER),
-        Kind::FLOAT => put_plain(
-            rows,
-            behind,
-            Kind::FLOAT,
-            second,
-            u32_at(&s[third..third + NUMBER], 0),
-            2 * NUMBER,
-        ),
+        Kind::INT => put_plain(rows, behind, Kind::INT, second, NUMBER),
+        Kind::VOCAB => put_plain(rows, behind, Kind::VOCAB, second, NUMBER),
+        Kind::FLOAT => put_float(rows, behind, second, u32_at(&s[third..third + NUMBER], 0)),
         Kind::STR => put_stored(s, behind, Kind::STR, TERMINATOR, rows, store),
         Kind::BLOB => put_stored(s, behind, Kind::BLOB, 0, rows, store),
-        LIST_CODE => put_plain(rows, x, LIST_CODE, second, 0, 2 * NUMBER),
+        LIST_CODE => put_plain(rows, x, LIST_CODE, second, 2 * NUMBER),
         _ => put_typed(s, x, code - LIST_CODE, second, rows, store),
     }
 }

@@ -1,12 +1,16 @@
 // Writes one row and its store bytes.
+use list::Kind;
 use list::NUMBER;
 use list::ROW;
+use numbers::put_u32;
+use numbers::put_u64;
 use numbers::u32_at;
 ghost use mathlib.Core.Path.{_≡_};
 ghost use mathlib.Core.List.{[], _∷_};
 ghost use Prim.Native.Nat.{_+_, _≤_};
 ghost use lib.Seq.{sets};
 ghost use Rattle.list.specs.Limits.{listLimit};
+ghost use Rattle.list.specs.Kind.{codeOf};
 ghost use Rattle.list.specs.RowBytes.{packed};
 ghost use Rattle.list_decode.specs.Pieces.{plain, stored, Fits, Here, Room, Written};
 
@@ -26,21 +30,37 @@ pub fn put_row(rows: &mut [u8], at: usize, code: u32, second: u32, third: u32)
     wire::copy_at(&mut rows[at..at + ROW], 0, &row);
 }
 
-// A row with nothing in the store, read from `size` bytes.
-pub fn put_plain(
-    rows: &mut [u8],
-    x: Cursor,
-    code: u32,
-    second: u32,
-    third: u32,
-    size: usize,
-) -> Cursor
-    requires { ⌜ Fits (now rows) (x .row) (packed (code ∷ second ∷ third ∷ [])) × (x .pos ≤ listLimit) × (size ≤ 8) ⌝ }
-    ensures { λ r. ⌜ Written x (plain code second third (x .pos + size)) (now (rows .entry)) [] r (now (rows .exit)) [] ⌝ }
+// A row whose third number is 0. The second is written with it as one number of 8 bytes, so that a row takes two moves.
+pub fn put_single(rows: &mut [u8], at: usize, code: u32, second: u32)
+    requires { ⌜ Fits (now rows) at (packed (code ∷ second ∷ 0 ∷ [])) ⌝ }
+    ensures { λ _. ⌜ now (rows .exit) ≡ sets (now (rows .entry)) at (packed (code ∷ second ∷ 0 ∷ [])) ⌝ }
 {
-    put_row(rows, x.row, code, second, third);
+    let row = &mut rows[at..at + ROW];
+    put_u32(&mut *row, 0, code);
+    put_u64(row, NUMBER, second as u64);
+}
+
+// An int, a vocab or a list: one number, read from `size` bytes.
+pub fn put_plain(rows: &mut [u8], x: Cursor, code: u32, second: u32, size: usize) -> Cursor
+    requires { ⌜ Fits (now rows) (x .row) (packed (code ∷ second ∷ 0 ∷ [])) × (x .pos ≤ listLimit) × (size ≤ 8) ⌝ }
+    ensures { λ r. ⌜ Written x (plain code second 0 (x .pos + size)) (now (rows .entry)) [] r (now (rows .exit)) [] ⌝ }
+{
+    put_single(rows, x.row, code, second);
     Cursor {
         pos: x.pos + size,
+        row: x.row + ROW,
+        used: x.used,
+    }
+}
+
+// A float, by its two halves.
+pub fn put_float(rows: &mut [u8], x: Cursor, low: u32, high: u32) -> Cursor
+    requires { ⌜ Fits (now rows) (x .row) (packed (codeOf Kind.Float ∷ low ∷ high ∷ [])) × (x .pos ≤ listLimit) ⌝ }
+    ensures { λ r. ⌜ Written x (plain (codeOf Kind.Float) low high (x .pos + 8)) (now (rows .entry)) [] r (now (rows .exit)) [] ⌝ }
+{
+    put_row(rows, x.row, Kind::FLOAT, low, high);
+    Cursor {
+        pos: x.pos + 2 * NUMBER,
         row: x.row + ROW,
         used: x.used,
     }

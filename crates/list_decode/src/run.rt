@@ -1,6 +1,7 @@
 // Writes the rows and the store bytes of elements of one kind, which carry no codes.
 use crate::put::Cursor;
 use crate::put::put_row;
+use crate::put::put_single;
 use crate::put::put_stored;
 use list::Kind;
 use list::NUMBER;
@@ -24,7 +25,7 @@ fn put_numbers(s: &[u8], x: Cursor, code: u32, n: usize, rows: &mut [u8]) -> Cur
     let mut left = n;
     while 0 < left {
         let next = pos + NUMBER;
-        put_row(rows, row, code, u32_at(&s[pos..next], 0), 0);
+        put_single(rows, row, code, u32_at(&s[pos..next], 0));
         pos = next;
         row += ROW;
         left -= 1;

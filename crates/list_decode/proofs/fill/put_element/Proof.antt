@@ -103,7 +103,7 @@ returns-3 c =
     let t = length-read (a .s .now) (a .x .pos + 4 + 4) _ (c .before .before .before .u32-at3 .ensures) in
     let is = value-is (a .s .now) (a .x) (u .u32-at .result) w Float (m .match .keys3) in
     rw (is, ← v, ← t)
-    (written-at (a .x) _ (no-bytes _ refl (a .store .now) (c .before .before .put-plain3 .ensures)))
+    (written-at (a .x) _ (no-bytes _ refl (a .store .now) (c .before .before .put-float .ensures)))
 
 returns-4 : tie.Need-returns-4
 returns-4 c =
@@ -134,7 +134,7 @@ returns-6 c =
     let w = length-read (a .s .now) (a .x .pos) _ (u .u32-at .ensures) in
     let v = length-read (a .s .now) (a .x .pos + 4) _ (m .before .u32-at2 .ensures) in
     let is = mixed-is (a .s .now) (a .x) (u .u32-at .result) w (m .match .keys6) in
-    rw (is, ← v) (no-bytes _ refl (a .store .now) (c .before .before .put-plain4 .ensures))
+    rw (is, ← v) (no-bytes _ refl (a .store .now) (c .before .before .put-plain3 .ensures))
 
 returns-7 : tie.Need-returns-7
 returns-7 c =
@@ -171,7 +171,6 @@ put-element-spec =
     (λ c. search needs)
     part-u32-at-end-3
     (λ c κs. search needs)
-    (λ c. search needs)
     (λ c κs. search needs)
     put-stored-requires
     put-stored-requires-2

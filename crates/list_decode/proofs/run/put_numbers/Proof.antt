@@ -28,8 +28,8 @@ add-next c = search needs
 part-u32-at-end : tie.Need-part-u32-at-end Inv-loop μ-loop
 part-u32-at-end c = let l = c .before .before in omega (arith, l .loop .inv .0, c .before .loop-test .taken)
 
-put-row-requires : tie.Need-put-row-requires Inv-loop μ-loop
-put-row-requires c κs =
+put-single-requires : tie.Need-put-single-requires Inv-loop μ-loop
+put-single-requires c κs =
     let l = c .before .before .before .before in
     let b = l .before .before .before in
     let a = b .args in
@@ -51,7 +51,7 @@ loop-again c =
     let read = length-read (a .s .now) at _ (u .u32-at .ensures) in (
       omega (arith, l .loop .inv .0, some),
       each-turn (oneNumber (a .s .now) (a .code)) (l .loop .left) some (l .loop .inv .1)
-          (row-written (a .code) _ 0 at (at + 4) (l .loop .row) (a .x .used) (w .put-row .ensures ∙ rw read)),
+          (row-written (a .code) _ 0 at (at + 4) (l .loop .row) (a .x .used) (w .put-single .ensures ∙ rw read)),
     )
 
 same-length : tie.Need-same-length Inv-loop μ-loop
@@ -75,7 +75,7 @@ put-numbers-spec =
     (λ c. search needs)
     part-u32-at-end
     (λ c κs. search needs)
-    put-row-requires
+    put-single-requires
     add-row
     (λ c. search needs)
     (λ c. search needs)
