@@ -20,17 +20,44 @@ pub enum Encoded {
 // The bytes of a word.
 const WORD: usize = 8;
 
-// The exclusive or of all bytes. It starts from 0, not from type and length, so that the loop can run on many bytes at once.
-fn xor_of(bytes: &[u8]) -> u8
-    ensures { λ r. ⌜ r ≡ xorFrom 0 (now (bytes .entry)) ⌝ }
+// The exclusive or of `start` and all bytes, in a loop that runs on many bytes at once.
+fn xor_from(start: u8, bytes: &[u8]) -> u8
+    ensures { λ r. ⌜ r ≡ xorFrom start (now (bytes .entry)) ⌝ }
 {
-    let mut x: u8 = 0;
+    let mut x = start;
     let mut i = 0;
     while i < bytes.len() {
         x = x ^ bytes[i];
         i += 1;
     }
     x
+}
+
+// The same of a word.
+fn xor_word(start: u8, word: &[u8]) -> u8
+    requires { ⌜ length (now word) ≡ wordSize ⌝ }
+    ensures { λ r. ⌜ r ≡ xorFrom start (now (word .entry)) ⌝ }
+{
+    start ^ word[0] ^ word[1] ^ word[2] ^ word[3] ^ word[4] ^ word[5] ^ word[6] ^ word[7]
+}
+
+// How many bytes a loop on many at once must have to pay for its beginning and its end.
+const MANY: usize = 32;
+
+// The exclusive or of all bytes: of few, word by word.
+fn xor_of(bytes: &[u8]) -> u8
+    ensures { λ r. ⌜ r ≡ xorFrom 0 (now (bytes .entry)) ⌝ }
+{
+    if MANY <= bytes.len() {
+        return xor_from(0, bytes);
+    }
+    let mut x: u8 = 0;
+    let mut i: usize = 0;
+    while WORD <= bytes.len() - i {
+        x = xor_word(x, &bytes[i..i + WORD]);
+        i += WORD;
+    }
+    xor_from(x, &bytes[i..])
 }
 
 // The code at a place of the message is that of a block which would open there: one more than the bytes between it and the next zero.
