@@ -39,4 +39,5 @@ fuzz: built
 	$(MAKE) --no-print-directory -C tests fuzz
 
 bench: built
-	$(MAKE) --no-print-directory -C tests bench placement
+	$(MAKE) --no-print-directory -C tests bench
+	$(MAKE) --no-print-directory -C tests placement

@@ -1,24 +1,29 @@
 /* Times the archive's packet writing and list reading against the C calls of plain/: packets
  * against the plain writer, lists and streams against the tuned reader. Prints a line for each
  * case: its name, then nanoseconds of the C call and of the archive's. The fastest of 60 samples
- * counts, the two sides taken in turn. placement.sh links it into programs that differ in where
- * the code stands. */
+ * counts, the two sides taken in turn. Fails where the sides' answers or areas differ.
+ * placement.sh links it into programs that differ in where the code stands. */
 
 #include "cinder.h"
 #include "plain/plain.h"
 #include <stdio.h>
+#include <stdlib.h>
 #include <string.h>
 #include <time.h>
 
-enum { SAMPLES = 60, SAMPLE_NS = 1000000 };
+enum { SAMPLES = 60, SAMPLE_NS = 2000000 };
 enum { PING = 1, ACK = 2, DEVICE_DATA = 4 };
 enum { INT = 1, STRING = 4, VOCAB = 9, BLOB = 12, LIST = 256 };
 
 static uint8_t bytes[CINDER_LIST_ROOM];
 static size_t length;
-static uint8_t packet[CINDER_PACKET_ROOM];
-static uint8_t rows[CINDER_ROWS_ROOM];
-static uint8_t store[CINDER_STORE_ROOM];
+
+/* What a call writes: a packet, or rows and store. */
+static _Alignas(16) struct {
+    uint8_t rows[CINDER_ROWS_ROOM];
+    uint8_t store[CINDER_STORE_ROOM];
+    uint8_t packet[CINDER_PACKET_ROOM];
+} areas, c_areas;
 
 typedef cinder_write_result write_call(uint64_t, const uint8_t *, size_t, uint8_t *, size_t);
 typedef cinder_list_result next_call(const uint8_t *, size_t, uint64_t, uint8_t *, size_t,
@@ -31,7 +36,7 @@ struct side {
     uint64_t type;
 };
 
-/* What the compiler must not see through. */
+/* The bytes written or read. Volatile, so that no call is left out. */
 static volatile uint64_t answer;
 
 static void call(const struct side *side)
@@ -39,13 +44,15 @@ static void call(const struct side *side)
     const uint8_t *front = bytes;
     __asm__ volatile("" : "+r"(front) : : "memory");
     if (side->write != NULL) {
-        answer = side->write(side->type, front, length, packet, sizeof packet).written;
+        answer =
+            side->write(side->type, front, length, areas.packet, sizeof areas.packet).written;
         return;
     }
     uint64_t at = 0;
     while (at < length) {
         cinder_list_result list =
-            side->next(front, length, at, rows, sizeof rows, store, sizeof store);
+            side->next(front, length, at, areas.rows, sizeof areas.rows, areas.store,
+                       sizeof areas.store);
         if (list.error != 0)
             break;
         at += list.consumed;
@@ -64,14 +71,38 @@ static double sample(const struct side *side, long times)
            (double)times;
 }
 
+/* The answer of one call on areas of zeros. */
+static uint64_t outcome(const struct side *side)
+{
+    memset(&areas, 0, sizeof areas);
+    sample(side, 1);
+    return answer;
+}
+
+/* How many calls take the time of a sample. */
+static long calls_for_a_sample(const struct side *side)
+{
+    long times = 1;
+    while (sample(side, times) * (double)times < SAMPLE_NS)
+        times *= 2;
+    return times;
+}
+
 static void compare(const char *name, struct side c_side, struct side archive_side)
 {
     const struct side *sides[2] = {&c_side, &archive_side};
     double fastest[2] = {1e18, 1e18};
-    long times = (long)(SAMPLE_NS / sample(sides[0], 100)) + 1;
+    uint64_t c_answer = outcome(&c_side);
+    c_areas = areas;
+    if (c_answer == 0 || outcome(&archive_side) != c_answer ||
+        memcmp(&areas, &c_areas, sizeof areas) != 0) {
+        fprintf(stderr, "%s: the sides differ or refuse\n", name);
+        exit(1);
+    }
+    long times[2] = {calls_for_a_sample(&c_side), calls_for_a_sample(&archive_side)};
     for (int turn = 0; turn < SAMPLES; turn++)
         for (int at = 0; at < 2; at++) {
-            double found = sample(sides[at], times);
+            double found = sample(sides[at], times[at]);
             if (found < fastest[at])
                 fastest[at] = found;
         }
@@ -139,31 +170,31 @@ static void lists(void)
 {
     length = 0;
     put_list(LIST, 0);
-    list_case("empty");
+    list_case("list-empty");
     length = 0;
     for (int list = 0; list < 8; list++) {
         put_list(LIST + INT, 8);
         put_ints(8, 0);
         if (list == 0)
-            list_case("8-ints");
+            list_case("list-8-ints");
     }
-    list_case("8-lists-of-8-ints");
+    list_case("stream-8-of-8-ints");
     length = 0;
     put_list(LIST + INT, 1022);
     put_ints(1022, 0);
-    list_case("ints-full");
+    list_case("list-ints-full");
     length = 0;
     put_list(LIST, 511);
-    put_ints(510, 1);
     put(VOCAB);
     put(0);
-    list_case("untyped-ints-full");
+    put_ints(510, 1);
+    list_case("list-untyped-ints-full");
     length = 0;
     put_run(STRING);
-    list_case("long-string-full");
+    list_case("list-long-string-full");
     length = 0;
     put_run(BLOB);
-    list_case("blob-full");
+    list_case("list-blob-full");
 }
 
 int main(void)

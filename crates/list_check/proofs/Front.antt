@@ -1,4 +1,4 @@
--- Laws of the list at the front: its bytes may be cut at the limit, and an empty list and a typed one are judged at once.
+-- Laws of the list at the front: its bytes may be cut at the limit, an empty list and ints that are all there are judged at once, and a typed list by its elements.
 use Prim.Native.Nat.{ℕ, _+_, _-_, _*_, _^_, _≤_, _<_, min}
 use mathlib.Core.Path.{_≡_, refl, sym, ap, _∙_}
 use mathlib.Core.Bool.{Bool, true, false}

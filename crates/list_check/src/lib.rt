@@ -355,7 +355,7 @@ fn front_fault(s: &[u8]) -> Judged
     refuse(22, 0)
 }
 
-// The codes of an outermost list of ints and of one of blobs.
+// The codes of a list of ints and of a list of blobs.
 const INTS: u32 = LIST_CODE + Kind::INT;
 
 const BLOBS: u32 = LIST_CODE + Kind::BLOB;

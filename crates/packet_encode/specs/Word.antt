@@ -1,4 +1,4 @@
--- Internal: how many bytes of a payload are copied at once.
+-- Internal: how many bytes of a payload are taken at once.
 use Prim.Native.Nat.{ℕ}
 
 abbrev pub wordSize : ℕ

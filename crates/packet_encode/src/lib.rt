@@ -20,7 +20,7 @@ pub enum Encoded {
 // The bytes of a word.
 const WORD: usize = 8;
 
-// The exclusive or of `start` and all bytes, in a loop that runs on many bytes at once.
+// The exclusive or of `start` and all bytes. The compiler makes a loop on many bytes at once of it.
 fn xor_from(start: u8, bytes: &[u8]) -> u8
     ensures { λ r. ⌜ r ≡ xorFrom start (now (bytes .entry)) ⌝ }
 {
@@ -41,10 +41,10 @@ fn xor_word(start: u8, word: &[u8]) -> u8
     start ^ word[0] ^ word[1] ^ word[2] ^ word[3] ^ word[4] ^ word[5] ^ word[6] ^ word[7]
 }
 
-// How many bytes a loop on many at once must have to pay for its beginning and its end.
+// From how many bytes on a loop on many at once is faster than one that goes word by word.
 const MANY: usize = 32;
 
-// The exclusive or of all bytes: of few, word by word.
+// The exclusive or of all bytes: of fewer than MANY word by word, and what is left of them byte by byte.
 fn xor_of(bytes: &[u8]) -> u8
     ensures { λ r. ⌜ r ≡ xorFrom 0 (now (bytes .entry)) ⌝ }
 {

@@ -1,6 +1,6 @@
 -- `xor_of` is the exclusive or of all bytes. The invariant: x with the bytes to come gives the whole.
 use Prim.Native.Nat.{ℕ, _+_, _-_, _≤_}
-use mathlib.Core.Path.{_≡_, refl, sym, ap, _∙_}
+use mathlib.Core.Path.{_≡_, sym, ap, _∙_}
 use mathlib.Core.List.{List}
 use native.Mathlib.Omega.{arith}
 use lib.ListN.{length, take, drop, take-append-drop, length-drop}
@@ -8,6 +8,7 @@ use lib.Seq.{drop-drop, take-all, length-take-le}
 use borrow.Author.Needs.{needs}
 use Rattle.packet.specs.Message.{xorFrom}
 use Rattle.packet.proofs.Sums.{xor-append}
+use Rattle.packet_encode.specs.Word.{wordSize}
 use Rattle.packet_encode.proofs.xor_of.Statement.{statement}
 use Rattle.packet_encode.proofs.xor_of.Tie as tie
 
@@ -29,7 +30,7 @@ xor-word-requires c κs =
     let l = c .before .before in
     let m = l .before .before .before .args .bytes .now in
     let i = l .loop .i in
-    length-take-le (i + 8 - i) (drop i m) (omega (arith, length-drop i m, c .before .loop-test .taken)) ∙ (omega arith)
+    length-take-le (i + wordSize - i) (drop i m) (omega (arith, length-drop i m, c .before .loop-test .taken)) ∙ (omega arith)
 
 loop-again : tie.Need-loop-again Inv-loop μ-loop
 loop-again c =
@@ -37,9 +38,9 @@ loop-again c =
     let m = l .before .before .before .args .bytes .now in
     let i = l .loop .i in
     let x = l .loop .x in
-    let e : i + 8 - i ≡ 8 = omega arith in
+    let e : i + wordSize - i ≡ wordSize = omega arith in
     let w = c .xor-word .ensures ∙ ap (λ (k : ℕ). xorFrom x (take k (drop i m))) e in
-    (omega (arith, c .before .before .loop-test .taken), ap (λ (y : ℕ). xorFrom y (drop (i + 8) m)) w ∙ sym (xor-part m i 8 x) ∙ l .loop .inv .1)
+    (omega (arith, c .before .before .loop-test .taken), ap (λ (y : ℕ). xorFrom y (drop (i + wordSize) m)) w ∙ sym (xor-part m i wordSize x) ∙ l .loop .inv .1)
 
 returns-2 : tie.Need-returns-2 Inv-loop μ-loop
 returns-2 c =

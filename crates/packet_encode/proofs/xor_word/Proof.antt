@@ -1,8 +1,9 @@
 -- `xor_word` is the exclusive or of the bytes of a word.
-use mathlib.Core.Path.{_≡_, sym, _∙_}
+use mathlib.Core.Path.{sym, _∙_}
 use native.Mathlib.Omega.{arith}
 use borrow.Author.Needs.{needs}
 use Rattle.packet.proofs.Sums.{xor-next, xor-past}
+use Rattle.packet_encode.specs.Word.{wordSize}
 use Rattle.packet_encode.proofs.xor_word.Statement.{statement}
 use Rattle.packet_encode.proofs.xor_word.Tie as tie
 
@@ -18,7 +19,7 @@ returns c =
     ∙ xor-next w 5 _ (omega (arith, b .pre))
     ∙ xor-next w 6 _ (omega (arith, b .pre))
     ∙ xor-next w 7 _ (omega (arith, b .pre))
-    ∙ xor-past w 8 _ (omega (arith, b .pre)))
+    ∙ xor-past w wordSize _ (omega (arith, b .pre)))
 
 pub xor-word-spec : {M : Type 1} → statement M
 xor-word-spec =
