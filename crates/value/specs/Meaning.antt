@@ -6,7 +6,7 @@ use lib.Dec.{ltb, leb, eqb}
 use lib.IntN.{ℤ}
 use lib.Ieee as ieee
 use lib.Ieee.{binary32, binary64, ofBits, toBits, isNan}
-use mir.Syntax.{w32}
+use mir.Syntax.{w16, w32}
 use mir.Val.{toZ, ofZ}
 use Rattle.catalogue.specs.Format.{kindInt, kindFloat}
 use Rattle.value.specs.declared.Value.{Value}
@@ -15,6 +15,10 @@ use Rattle.value.specs.declared.Value.the-variants.{Int, Float, Bool, Na
 -- "INT is 4 bytes, low byte first, signed": the signed number of 32 bits
 abbrev pub intOf : ℕ → ℤ
 intOf bits = toZ w32 bits
+
+-- "as two bytes, low byte first, signed": the signed number of 16 bits
+abbrev pub shortOf : ℕ → ℤ
+shortOf bits = toZ w16 bits
 
 -- the sign of a single, 0 or 1
 abbrev pub signOf : ℕ → ℕ
@@ -60,6 +64,10 @@ meant kind bits = meaningOf (valueOf kind bits)
 -- the 32 bits of a whole number
 abbrev pub intBits : ℤ → ℕ
 intBits number = ofZ w32 number
+
+-- "the signed number is held": the 32 bits of the number that 16 bits say
+abbrev pub extended : ℕ → ℕ
+extended bits = intBits (shortOf bits)
 
 -- the 32 bits of a single; a value that is read has its NaNs as bits already
 abbrev pub floatBits : ieee.Float → ℕ

@@ -1,6 +1,6 @@
 // A held value: what its 32 bits mean by the parameter's kind, and a single float as a double.
 ghost use mathlib.Core.Path.{_≡_};
-ghost use Rattle.value.specs.Meaning.{intOf, intBits, floatBits, flagBits, meaningOf, meant, widened};
+ghost use Rattle.value.specs.Meaning.{intOf, intBits, extended, floatBits, flagBits, meaningOf, meant, widened};
 
 // The lowest pattern without the sign that is an infinity or a NaN.
 const INFINITY: u32 = 0x7f80_0000;
@@ -33,6 +33,16 @@ pub fn int_bits(number: i32) -> u32
     }
     let m = !number;
     0xffff_ffff - (m as u32)
+}
+
+// The 32 bits of the signed number of 16 bits: its sign goes on into the upper half.
+pub fn extend(bits: u16) -> u32
+    ensures { λ r. ⌜ r ≡ extended bits ⌝ }
+{
+    if bits < 0x8000 {
+        return bits as u32;
+    }
+    0xffff_0000 + (bits as u32)
 }
 
 // The 32 bits of a float. A NaN does not keep them, and comes as its bits instead.
