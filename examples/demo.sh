@@ -16,7 +16,8 @@ for hex in $(awk '$1 == "posted" { print $3 }' "$answers"); do
 done
 target/bin/show < "$posted" > "$texts"
 
-echo "A cup sensor on socket 2 and a syrup pump on socket 5; the sensor then sends bad packets."
+echo "A cup sensor on socket 2 and a syrup pump on socket 5; the pump is an old one, of year 5, that sends its INTs in two bytes."
+echo "Then bad packets come, nearly all of them from the sensor."
 echo "Each line: what came, and what the hub answered. The table and the posted list are shown where they changed."
 echo
 paste -d '\t' examples/evening.steps "$answers" | awk -F '\t' -v texts="$texts" '

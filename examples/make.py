@@ -12,6 +12,9 @@ import struct
 PING, ACK, DEVICE_WRITE, DEVICE_DATA, LOG = 1, 2, 3, 4, 5
 INT, FLOAT, BOOL = 0, 1, 2
 READABLE, WRITABLE = 4, 8
+# The first year whose devices send an INT as four bytes; older ones send it as two.
+LONG_INT_YEAR = 6
+OLD, NEW = LONG_INT_YEAR - 1, LONG_INT_YEAR
 
 
 def encoded(message):
@@ -45,6 +48,11 @@ def ack(device, year, uid):
 
 def data(bits, values, kind=DEVICE_DATA, **damage):
     return packet(kind, struct.pack("<I", bits) + values, **damage)
+
+
+def whole_number(year, number):
+    """An INT as a device of this year sends it."""
+    return struct.pack("<i" if year >= LONG_INT_YEAR else "<h", number)
 
 
 def catalogue(types):
@@ -107,7 +115,7 @@ def bench():
 
 
 def evening():
-    """A cup sensor that names more values than it carries, beside a syrup pump that works."""
+    """A cup sensor that names more values than it carries, beside an old syrup pump that works."""
     cup, pump = 10, 20
     sensor, syrup = 2, 5
     weight, warmth, there = 1, 2, 4
@@ -119,14 +127,17 @@ def evening():
         ]),
     )
     good = struct.pack("<if", -250, 4.5) + b"\1"
-    capture.receive(sensor, ack(cup, 6, 0x1122334455667788), "the cup sensor's ACK")
-    capture.receive(syrup, ack(pump, 5, 0x00000000000000AA), "the syrup pump's ACK")
+    strokes = -3
+    capture.receive(sensor, ack(cup, NEW, 0x1122334455667788), "the cup sensor's ACK")
+    capture.receive(syrup, ack(pump, OLD, 0x00000000000000AA), f"the syrup pump's ACK, year {OLD}")
     capture.receive(sensor, data(weight | warmth | there, good), "weight, warmth and that a cup is there")
-    capture.receive(syrup, data(7, struct.pack("<fi", 0.1, 12) + b"\1"), "flow, strokes and that it runs")
+    running = struct.pack("<f", 0.1) + whole_number(OLD, strokes) + b"\1"
+    capture.receive(syrup, data(7, running), f"flow, strokes and that it runs; the strokes, {strokes}, in two bytes")
     capture.look()
 
     whole = data(weight | warmth | there, good)
     part = encoded(message(DEVICE_DATA, struct.pack("<I", 7) + good))
+    running_long = struct.pack("<f", 0.1) + whole_number(NEW, strokes) + b"\1"
     faults = [
         (sensor, whole[:9], "1, L promises more bytes than have come"),
         (sensor, b"\x7f" + whole, "2, a stray byte before the packet"),
@@ -145,6 +156,7 @@ def evening():
         (sensor, data(7, good + b"\0"), "17, a byte more than the values"),
         (sensor, data(weight | warmth, good[:4]), "17, two values named, one carried"),
         (sensor, data(0, b"\1"), "17, no value named, one byte carried"),
+        (syrup, data(7, running_long), f"17, strokes in four bytes from a pump of year {OLD}"),
         (sensor, data(weight | there, good[:4] + b"\2"), "18, a flag of 2"),
         (sensor, packet(PING, b""), "19, PING"),
         (sensor, data(7, good, kind=DEVICE_WRITE), "19, DEVICE_WRITE"),
@@ -161,6 +173,64 @@ def evening():
     capture.write()
 
 
+# The parameters of a device in the capture of years: the first INT, the last, both, and all four.
+YEARS_PARAMETERS = [INT + READABLE, FLOAT + READABLE, BOOL + READABLE, INT + READABLE]
+FIRST, LAST, BOTH, ALL_FOUR = 1, 8, 9, 15
+
+
+def four_values(year, first, last):
+    values = whole_number(year, first) + struct.pack("<f", 2.5) + b"\1" + whole_number(year, last)
+    return data(ALL_FOUR, values)
+
+
+def two_ints(year, first, last):
+    return data(BOTH, whole_number(year, first) + whole_number(year, last))
+
+
+def years():
+    """An old and a new device of one type side by side, each in its own layout and in the other's."""
+    kind = 30
+    old, new = 1, 4
+    capture = Capture("years", catalogue([(kind, YEARS_PARAMETERS)]))
+    parts = [
+        [
+            (old, ack(kind, OLD, 0xA1), f"ACK, year {OLD}"),
+            (new, ack(kind, NEW, 0xB2), f"ACK, year {NEW}"),
+            (old, four_values(OLD, -1, -250), "all four values, INTs of -1 and -250 in two bytes each"),
+            (new, four_values(NEW, -1, -100000), "all four values, INTs of -1 and -100000 in four bytes each"),
+            (old, four_values(NEW, 7, 8), "17, all four values in the layout of the other"),
+            (old, data(FIRST, whole_number(NEW, 7)), "17, one INT in four bytes"),
+            (new, four_values(OLD, 7, 8), "17, all four values in the layout of the other"),
+            (new, data(LAST, whole_number(OLD, 7)), "17, one INT in two bytes"),
+        ],
+        [
+            (old, two_ints(OLD, -32768, 32767), "INTs of -32768 and 32767, four bytes in all"),
+            (new, two_ints(OLD, -32768, 32767), "17, the same packet: two INTs named, the bytes of one carried"),
+            (new, two_ints(NEW, -32768, 32767), "INTs of -32768 and 32767, eight bytes in all"),
+            (old, two_ints(NEW, -32768, 32767), "17, the same packet"),
+        ],
+        [
+            (old, ack(kind, NEW, 0xA1), f"a second ACK, year {NEW}"),
+            (old, two_ints(OLD, -2, 2), "17, INTs in two bytes"),
+            (old, two_ints(NEW, -2, 100000), "INTs of -2 and 100000 in four bytes each"),
+            (new, four_values(NEW, -4, 100001), "all four values, INTs of -4 and 100001 in four bytes each"),
+            (new, ack(kind, OLD, 0xB2), f"a second ACK, year {OLD}"),
+            (new, four_values(NEW, -4, 5), "17, INTs in four bytes"),
+            (new, four_values(OLD, -4, 5), "all four values, INTs of -4 and 5 in two bytes each"),
+            (old, data(FIRST, whole_number(NEW, -6)), "an INT of -6 in four bytes"),
+        ],
+    ]
+    for part in parts:
+        for socket, bytes_, step in part:
+            capture.receive(socket, bytes_, step)
+            capture.look()
+        for socket in [old, new]:
+            for index, step in enumerate(["INT", "FLOAT", "BOOL", "INT"]):
+                capture.read(socket, index, f"parameter {index}, {step}")
+    capture.write()
+
+
 if __name__ == "__main__":
     bench()
     evening()
+    years()

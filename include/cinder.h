@@ -137,7 +137,8 @@ cinder_list_result cinder_stream_next(const uint8_t *bytes, size_t bytes_len, ui
  *     3        year
  *     4 to 11  UID
  *    12 to 43  for each of 32 parameters, 1 if a value is held, else 0
- *    44 to 171 for each of 32 parameters, the 4 bytes of its value; a flag is 0 or 1
+ *    44 to 171 for each of 32 parameters, the 4 bytes of its value; a flag is 0 or 1,
+ *             and an INT that came as two bytes is the same signed number in four
  *
  * All zeros is an empty row, and CINDER_TABLE_ROOM zeros are an empty table. A table is
  * lawful if it has that length, bytes that say yes or no are 0 or 1, empty rows and
@@ -162,6 +163,12 @@ cinder_list_result cinder_stream_next(const uint8_t *bytes, size_t bytes_len, ui
  * DEVICE_DATA has replaced the values that its map names and no others. A LOG changes
  * nothing. No byte outside the row of the socket has changed.
  *
+ * The payload of DEVICE_DATA is a map of 32 bits, low byte first, bit i for parameter i,
+ * and behind it the values of the set bits, rising, with nothing between. An INT is a
+ * signed number, low byte first, of two bytes if the year in the row of the socket is
+ * below 6 and of four if it is not; a FLOAT has four bytes in every year, a BOOL one.
+ * A second ACK with another year so changes what the packets behind it carry.
+ *
  * On an error consumed is 0, `table` is as it was, and error is the first of these, in
  * this order:
  *
@@ -181,7 +188,7 @@ cinder_list_result cinder_stream_next(const uint8_t *bytes, size_t bytes_len, ui
  *
  *   15  no device is seated at the socket
  *   16  a bit of the map has no readable parameter
- *   17  the values are longer or shorter than the map asks
+ *   17  the values are longer or shorter than the map asks of a device of that year
  *   18  a flag is neither 0 nor 1
  */
 cinder_packet_result cinder_hub_receive(const uint8_t *catalogue, size_t catalogue_len, uint8_t *table, size_t table_len, uint64_t socket, const uint8_t *bytes, size_t bytes_len);

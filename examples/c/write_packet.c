@@ -3,7 +3,8 @@
 
 enum { DEVICE_DATA = 4 };
 
-/* Parameters 0 and 2 by the map's bits: an INT of 7, and a BOOL that is set. */
+/* Parameters 0 and 2 by the map's bits: an INT of 7, in four bytes as devices from year 6 on send
+ * it, and a BOOL that is set. */
 static const uint8_t payload[] = {0x05, 0x00, 0x00, 0x00, 0x07, 0x00, 0x00, 0x00, 0x01};
 
 /* The call writes straight into this area; it makes no array of its own. */

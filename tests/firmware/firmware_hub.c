@@ -1,6 +1,6 @@
 /* The hub firmware's use of the table: document 01's bench case, every error of each call
- * in the order in which errors are judged, tables that are none, and areas of exact
- * length. */
+ * in the order in which errors are judged, tables that are none, INTs of both widths, and
+ * areas of exact length. */
 
 #include "checks.h"
 #include "cinder.h"
@@ -10,7 +10,7 @@
 #include <stdlib.h>
 #include <string.h>
 
-enum { TABLE = CINDER_TABLE_ROOM, SLOT = 172, PRESENT = 12, BITS = 44, PARAMETERS = 32 };
+enum { TABLE = CINDER_TABLE_ROOM, SLOT = 172, YEAR = 3, PRESENT = 12, BITS = 44, PARAMETERS = 32 };
 
 /* Type 7: INT readable, FLOAT writable, BOOL readable. */
 static const uint8_t bench_catalogue[] = {0x01, 0x07, 0x03, 0x03, 0x00, 0x04, 0x09, 0x06};
@@ -40,10 +40,15 @@ static struct packet packet(uint8_t type, const void *payload, size_t length)
     return packet;
 }
 
+static struct packet ack_of_year(uint8_t device_type, uint8_t year, uint8_t last_of_uid)
+{
+    uint8_t payload[10] = {device_type, year, 1, 2, 3, 4, 5, 6, 7, last_of_uid};
+    return packet(ACK, payload, sizeof payload);
+}
+
 static struct packet ack(uint8_t device_type, uint8_t last_of_uid)
 {
-    uint8_t payload[10] = {device_type, 6, 1, 2, 3, 4, 5, 6, 7, last_of_uid};
-    return packet(ACK, payload, sizeof payload);
+    return ack_of_year(device_type, LONG_INT_YEAR, last_of_uid);
 }
 
 static struct packet data(uint32_t map, const void *values, size_t length)
@@ -367,6 +372,94 @@ static void check_floats(void)
     publish(&hub, CINDER_LIST_ROOM - 1, 20, NULL, 0, "the longest list, area too small");
 }
 
+/* What socket 3's device of the bench catalogue holds for its INT, read and posted alone. */
+static void check_held_int(struct hub *hub, uint32_t bits, const char *name)
+{
+    uint32_t words[] = {256, 1, 256, 4, 1, 3, 1, 7, 12, 8, 0x04030201, 0x08070605,
+                        257, 2, 0, bits};
+    uint8_t list[sizeof words];
+    put_words(list, words, sizeof words / sizeof words[0]);
+    read_value(hub, 3, 0, (cinder_value_result){.kind = 1, .bits = bits}, name);
+    publish(hub, CINDER_LIST_ROOM, 0, list, sizeof list, name);
+}
+
+/* An old device's INTs, held with their sign; then the same device with long ones. */
+static void check_short_ints(void)
+{
+    static const struct {
+        uint8_t bytes[2];
+        uint8_t held[4];
+        uint32_t bits;
+    } ints[] = {
+        {{0xff, 0xff}, {0xff, 0xff, 0xff, 0xff}, UINT32_C(0xffffffff)},
+        {{0x00, 0x80}, {0x00, 0x80, 0xff, 0xff}, UINT32_C(0xffff8000)},
+        {{0xff, 0x7f}, {0xff, 0x7f, 0x00, 0x00}, 32767},
+        {{0x80, 0x00}, {0x80, 0x00, 0x00, 0x00}, 128},
+    };
+    struct hub hub = new_hub();
+    uint8_t wanted[TABLE] = {1, 3, 7, LONG_INT_YEAR - 1, 1, 2, 3, 4, 5, 6, 7, 8};
+    receive(&hub, 3, ack_of_year(7, LONG_INT_YEAR - 1, 8), 0, wanted, "an old device's ACK");
+    wanted[PRESENT] = 1;
+    for (size_t at = 0; at < sizeof ints / sizeof ints[0]; at++) {
+        memcpy(wanted + BITS, ints[at].held, 4);
+        receive(&hub, 3, data(1, ints[at].bytes, 2), 0, wanted, "a short int");
+        check_held_int(&hub, ints[at].bits, "a short int");
+        receive(&hub, 3, data(1, ints[at].held, 4), 17, NULL, "a long int from an old device");
+    }
+    receive(&hub, 3, data(13, "\1\0\2", 3), 16, NULL, "parameter that is not there");
+    receive(&hub, 3, data(5, "\1\0\0\0\2", 5), 17, NULL, "a long int and a flag of 2");
+    receive(&hub, 3, data(5, "\1\0\2", 3), 18, NULL, "a short int and a flag of 2");
+    wanted[YEAR] = LONG_INT_YEAR;
+    memset(wanted + PRESENT, 0, SLOT - PRESENT);
+    receive(&hub, 3, ack(7, 8), 0, wanted, "the same device of the first year with long ints");
+    receive(&hub, 3, data(1, "\377\377", 2), 17, NULL, "a short int from a new device");
+    wanted[PRESENT] = 1;
+    memcpy(wanted + BITS, "\376\377\377\377", 4);
+    receive(&hub, 3, data(1, "\376\377\377\377", 4), 0, wanted, "a long int");
+    check_held_int(&hub, UINT32_C(0xfffffffe), "a long int");
+}
+
+/* Each year with an INT in two bytes and in four, and an INT beyond two bytes in its row. */
+static void check_years(void)
+{
+    for (unsigned year = 0; year <= UINT8_MAX; year++) {
+        int is_long = year >= LONG_INT_YEAR;
+        struct hub hub = new_hub();
+        uint8_t wanted[TABLE] = {1, 3, 7, (uint8_t)year, 1, 2, 3, 4, 5, 6, 7, 8};
+        receive(&hub, 3, ack_of_year(7, (uint8_t)year, 8), 0, wanted, "every year");
+        receive(&hub, 3, data(1, "\1\0\1\0", is_long ? 2 : 4), 17, NULL, "the other width");
+        wanted[PRESENT] = 1;
+        memcpy(wanted + BITS, is_long ? "\1\0\1\0" : "\1\0\0\0", 4);
+        receive(&hub, 3, data(1, "\1\0\1\0", is_long ? 4 : 2), 0, wanted, "its own width");
+        memcpy(wanted + BITS, "\1\2\3\200", 4);
+        memcpy(hub.table, wanted, TABLE);
+        check_held_int(&hub, UINT32_C(0x80030201), "an int beyond two bytes");
+        wanted[PRESENT + 2] = 1;
+        receive(&hub, 3, data(4, "\0", 1), 0, wanted, "a flag beside it");
+    }
+}
+
+/* New and old devices of one type side by side: each is asked for its own width. */
+static void check_widths_side_by_side(void)
+{
+    struct hub hub = new_hub();
+    uint8_t wanted[TABLE] = {0};
+    for (uint8_t slot = 0; slot < 4; slot++) {
+        uint8_t year = LONG_INT_YEAR - slot % 2;
+        uint8_t row[] = {1, slot, 7, year, 1, 2, 3, 4, 5, 6, 7, slot};
+        memcpy(wanted + SLOT * slot, row, sizeof row);
+        receive(&hub, slot, ack_of_year(7, year, slot), 0, wanted, "new and old");
+    }
+    for (uint8_t slot = 0; slot < 4; slot++) {
+        size_t own = slot % 2 == 0 ? 4 : 2;
+        size_t other = 6 - own;
+        receive(&hub, slot, data(1, "\377\377\377\377", other), 17, NULL, "a neighbour's width");
+        wanted[SLOT * slot + PRESENT] = 1;
+        memset(wanted + SLOT * slot + BITS, 0xff, 4);
+        receive(&hub, slot, data(1, "\377\377\377\377", own), 0, wanted, "new and old");
+    }
+}
+
 int main(void)
 {
     check_bench_case();
@@ -374,5 +467,8 @@ int main(void)
     check_order_of_receiving();
     check_no_table();
     check_floats();
+    check_short_ints();
+    check_years();
+    check_widths_side_by_side();
     return finish();
 }

@@ -509,21 +509,36 @@ static void hub_calls(const uint8_t *table, const uint8_t *bytes, size_t length,
     measure("list area too small");
 }
 
-/* A data packet for all 32 parameters, and the table that four devices make of it. */
-static size_t put_data(uint8_t *bytes)
+/* A data packet for all 32 parameters, as a device of this year sends them. */
+static size_t put_data(uint8_t *bytes, uint8_t year)
 {
+    const size_t widths[] = {year < LONG_INT_YEAR ? 2 : 4, 4, 1};
     uint8_t payload[132] = {0xff, 0xff, 0xff, 0xff};
     size_t at = 4;
-    for (unsigned index = 0; index < PARAMETERS; index++)
+    for (unsigned index = 0; index < PARAMETERS; index++) {
         if (index % 3 == 2)
-            payload[at++] = 1;
-        else {
+            payload[at] = 1;
+        else
             put_words(payload + at, (uint32_t[]){0x7f800001 + index}, 1);
-            at += 4;
-        }
+        at += widths[index % 3];
+    }
     return packet_with(DEVICE_DATA, payload, at, bytes);
 }
 
+/* An ACK, and the data of a device with long INTs and of one with short ones. */
+enum { AN_ACK, LONG_INTS, SHORT_INTS, TELLING };
+
+static const char *const telling_names[] = {"an ACK", "32 values", "32 values, short ints"};
+
+static size_t put_telling(uint8_t *bytes, int which, uint8_t device_type)
+{
+    uint8_t payload[10] = {device_type, LONG_INT_YEAR, 99};
+    if (which == AN_ACK)
+        return packet_with(ACK, payload, sizeof payload, bytes);
+    return put_data(bytes, which == LONG_INTS ? LONG_INT_YEAR : LONG_INT_YEAR - 1);
+}
+
+/* The table that so many devices make, with long INTs and with short ones in turn. */
 static void fill(uint8_t *table, unsigned devices)
 {
     uint8_t bytes[CINDER_PACKET_ROOM];
@@ -531,12 +546,13 @@ static void fill(uint8_t *table, unsigned devices)
     given.table = table;
     given.bytes = bytes;
     for (unsigned at = 0; at < devices; at++) {
-        uint8_t payload[10] = {(uint8_t)(at + 1), 6, (uint8_t)at};
+        uint8_t year = LONG_INT_YEAR - at % 2;
+        uint8_t payload[10] = {(uint8_t)(at + 1), year, (uint8_t)at};
         given.number = 2 * at;
         given.length = packet_with(ACK, payload, sizeof payload, bytes);
         measure("an ACK");
         check(given.answer.error == 0, "hub", "an ACK");
-        given.length = put_data(bytes);
+        given.length = put_data(bytes, year);
         measure("32 values");
         check(given.answer.error == 0, "hub", "32 values");
     }
@@ -565,12 +581,10 @@ static void all_hub_calls(void)
                     size_t size = packet_with(type, payload, length, bytes);
                     hub_calls(tables[table], bytes, size, "packet");
                 }
-            for (int ack = 0; ack < 2; ack++) {
-                uint8_t payload[10] = {(uint8_t)types, 6, 99};
-                size_t size =
-                    ack ? packet_with(ACK, payload, sizeof payload, bytes) : put_data(bytes);
+            for (int which = 0; which < TELLING; which++) {
+                size_t size = put_telling(bytes, which, (uint8_t)types);
                 for (size_t at = 0; at <= size; at++) {
-                    hub_calls(tables[table], bytes, at, ack ? "an ACK" : "32 values");
+                    hub_calls(tables[table], bytes, at, telling_names[which]);
                     bytes[at == size ? 0 : at] ^= 1;
                     hub_calls(tables[table], bytes, size, "packet with a byte changed");
                     bytes[at == size ? 0 : at] ^= 1;

@@ -9,4 +9,5 @@ pub mod Readings
 pub mod ByRow
 pub mod Posted
 pub mod Reached
+pub mod Years
 pub mod Bench

@@ -104,6 +104,17 @@ pub not-admitted :
 unfolding receivedOf
 not-admitted c t socket s number e = rw e
 
+-- LAW: what is accepted came to a legal catalogue, a lawful table and one of its sockets
+pub accepted-admitted :
+    (c t : List ℕ) (socket : ℕ) (s : List ℕ) (n : ℕ) → receivedOf c t socket s .outcome ≡ accepted n →
+    admission slotCount socketCount c t socket ≡ change.accepted
+accepted-admitted c t socket s n h = go (admission slotCount socketCount c t socket) refl
+  where
+    go : (v : Verdict) → admission slotCount socketCount c t socket ≡ v → v ≡ change.accepted
+    go change.accepted e = refl
+    go (change.refused number) e =
+        never (sym (ap isAccepted h) ∙ ap (λ (r : Receiving). isAccepted (r .outcome)) (not-admitted c t socket s number e))
+
 -- LAW: a whole packet is answered, refusals among the answers, as it is without the bytes that follow it
 pub later-bytes-ignored :
     (c t : List ℕ) (socket : ℕ) (s later : List ℕ) → lengthByte s + 2 ≤ length s →

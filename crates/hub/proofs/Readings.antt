@@ -1,16 +1,20 @@
--- One parameter, read after a packet was received.
-use Prim.Native.Nat.{ℕ, _<_}
+-- One parameter, read or posted after a packet was received.
+use Prim.Native.Nat.{ℕ, _≤_, _<_}
 use mathlib.Core.Path.{_≡_, refl, sym, ap, _∙_}
 use mathlib.Core.Bool.{true, false}
 use mathlib.Core.List.{List}
-use Rattle.wire.specs.Number.{Bytes}
+use Rattle.wire.specs.Number.{numberAt, Bytes}
+use Rattle.list.specs.Tree.{int}
 use Rattle.packet.specs.TypeTable.{ACK, DEVICE_DATA}
 use Rattle.packet.specs.Packet.{StartsWith}
+use Rattle.catalogue.specs.Format.{kindInt}
 use Rattle.catalogue.specs.Lookup.{parameterOf}
-use Rattle.value.specs.Meaning.{meant}
+use Rattle.value.specs.Meaning.{whole, intOf, intBits, shortOf, extended, meant}
+use Rattle.value.proofs.Shorts.{extended-small}
 use Rattle.slot.specs.Slot.{paramCount}
 use Rattle.slot.specs.Rows.{slotAt}
 use Rattle.slot.specs.declared.Slot.{Slot}
+use Rattle.slot.proofs.Filling.{number-small}
 use Rattle.slot.proofs.Rows.{slot-shaped}
 use Rattle.table.specs.Places.{slotCount, socketCount, placeOf}
 use Rattle.table.specs.Change as change
@@ -21,10 +25,12 @@ use Rattle.lawful.proofs.Meaning.{lawful-means}
 use Rattle.lawful.proofs.Keeps.{own-place}
 use Rattle.lawful.proofs.Admission.{admitted-means, means-admitted}
 use Rattle.attach.specs.Attach.{deviceIn, yearIn, uidIn, ackRow}
-use Rattle.parameters.specs.Data.{mapOf, named, valueIn, stored}
+use Rattle.parameters.specs.Data.{mapOf, named, longIntYear, shortWidth, longWidth, offsetOf, valueIn, stored}
 use Rattle.parameters.specs.Read.{held, absent, contentOf}
 use Rattle.parameters.proofs.Values.{data-same-device}
-use Rattle.parameters.proofs.Contents.{named-reads, unnamed-reads, fresh-reads, read-found}
+use Rattle.parameters.proofs.Contents.{named-reads, old-int-bits, old-int-reads, new-int-reads, unnamed-reads, fresh-reads, read-found}
+use Rattle.publish.specs.Published.{elementOf, heldValue}
+use Rattle.publish.proofs.Values.{int-published}
 use Rattle.hub.specs.Receive.{accepted, receivedOf}
 use Rattle.hub.specs.Calls.{readOf}
 use Rattle.hub.proofs.Keeps.{received-lawful}
@@ -76,6 +82,38 @@ module _
           readOf c (receivedOf c t socket s .table) socket p ≡
           held (meant (parameterOf c (slotAt t i .device) p .kind) (valueIn c (slotAt t i) (mapOf payload) payload p))
       named-read l m = data-read ∙ named-reads c payload (slotAt t i) (slot-shaped t i) p l m
+
+      -- LAW: an INT that it names reads as the signed number of its two bytes where the device's year is below 6
+      pub old-int-read :
+          Bytes payload → p < paramCount → named (mapOf payload) p ≡ true → parameterOf c (slotAt t i .device) p .kind ≡ kindInt →
+          slotAt t i .year < longIntYear →
+          readOf c (receivedOf c t socket s .table) socket p ≡
+          held (whole (shortOf (numberAt shortWidth payload (offsetOf c (slotAt t i) (mapOf payload) p))))
+      old-int-read y l m k o = data-read ∙ old-int-reads c payload (slotAt t i) (slot-shaped t i) p y l m k o
+
+      -- LAW: and is posted as that number
+      pub old-int-posted :
+          Bytes payload → p < paramCount → named (mapOf payload) p ≡ true → parameterOf c (slotAt t i .device) p .kind ≡ kindInt →
+          slotAt t i .year < longIntYear →
+          elementOf (heldValue c (slotAt (receivedOf c t socket s .table) i) p) ≡
+          int (intBits (shortOf (numberAt shortWidth payload (offsetOf c (slotAt t i) (mapOf payload) p))))
+      old-int-posted y l m k o =
+          let at = offsetOf c (slotAt t i) (mapOf payload) p in
+          let number = numberAt shortWidth payload at in
+          rw (
+            data-slot c t socket s a payload consumed n i b g w h e,
+            data-same-device c payload (slotAt t i) .device-same,
+            k,
+            old-int-bits c payload (slotAt t i) (slot-shaped t i) p l m k o,
+          ) (int-published (extended number) (extended-small number (number-small shortWidth payload at y)))
+
+      -- LAW: it reads as that of its four where the year is not below 6
+      pub new-int-read :
+          p < paramCount → named (mapOf payload) p ≡ true → parameterOf c (slotAt t i .device) p .kind ≡ kindInt →
+          longIntYear ≤ slotAt t i .year →
+          readOf c (receivedOf c t socket s .table) socket p ≡
+          held (whole (intOf (numberAt longWidth payload (offsetOf c (slotAt t i) (mapOf payload) p))))
+      new-int-read l m k o = data-read ∙ new-int-reads c payload (slotAt t i) (slot-shaped t i) p l m k o
 
       -- LAW: any other parameter reads as before
       pub unnamed-read :

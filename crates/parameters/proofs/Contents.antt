@@ -1,21 +1,27 @@
 -- What one parameter reads as: the packet's value where DEVICE_DATA names it, else what it was, and absent in a new row.
-use Prim.Native.Nat.{ℕ, _<_}
+use Prim.Native.Nat.{ℕ, _≤_, _<_}
 use mathlib.Core.Path.{_≡_, refl, ap, _∙_}
 use mathlib.Core.Bool.{Bool, true, false, cond, _&&_}
 use mathlib.Core.List.{List}
+use native.Mathlib.Omega.{arith}
 use lib.Dec.{ltb}
 use lib.ListN.{length, getD-replicate}
 use borrow.Author.Tests.{lt-ltb, ltb-true}
+use Rattle.wire.specs.Number.{numberAt, Bytes}
+use Rattle.catalogue.specs.Format.{kindInt}
 use Rattle.catalogue.specs.Lookup.{parameterOf}
-use Rattle.value.specs.Meaning.{meant}
+use Rattle.value.specs.Meaning.{whole, intOf, shortOf, extended, meant}
+use Rattle.value.proofs.Shorts.{extended-says}
 use Rattle.slot.specs.Slot.{paramCount, presentAt, bitsAt, freshSlot}
 use Rattle.slot.specs.Rows.{slotAt}
 use Rattle.slot.specs.declared.Slot.{Slot}
+use Rattle.slot.proofs.Filling.{number-small}
 use Rattle.table.specs.Places.{placeOf, rowAt}
 use Rattle.table.specs.declared.Place.{Place}
 use Rattle.table.specs.declared.Place.the-variants.{At, Nowhere}
-use Rattle.parameters.specs.Data.{mapOf, named, valueIn, stored}
+use Rattle.parameters.specs.Data.{mapOf, named, longIntYear, shortWidth, longWidth, offsetOf, valueIn, stored}
 use Rattle.parameters.specs.Read.{held, absent, refused, contentOf, finding, found}
+use Rattle.parameters.proofs.Widths.{width-old, width-new, held-plain, held-short}
 use Rattle.parameters.proofs.Values.{data-same-device, data-present, data-bits}
 
 -- a row of as many flags and numbers as there are parameters, as each row of a table is
@@ -42,6 +48,29 @@ module _
     unfolding contentOf
     named-reads l n =
         rw (lt-ltb p paramCount l, present-as true l n, bits-as true l n, data-same-device c payload s .device-same)
+
+    -- LAW: of an INT from a device of a year below 6 the 32 bits of the signed number of its two bytes are held
+    pub old-int-bits :
+        p < paramCount → named (mapOf payload) p ≡ true → parameterOf c (s .device) p .kind ≡ kindInt → s .year < longIntYear →
+        bitsAt (stored c payload s) p ≡ extended (numberAt shortWidth payload (offsetOf c s (mapOf payload) p))
+    old-int-bits l n k y = bits-as true l n ∙ rw (k, width-old (s .year) y) (held-short _)
+
+    -- LAW: so that it reads as that number
+    pub old-int-reads :
+        Bytes payload → p < paramCount → named (mapOf payload) p ≡ true → parameterOf c (s .device) p .kind ≡ kindInt → s .year < longIntYear →
+        contentOf c (stored c payload s) p ≡ held (whole (shortOf (numberAt shortWidth payload (offsetOf c s (mapOf payload) p))))
+    unfolding contentOf
+    old-int-reads b l n k y =
+        let at = offsetOf c s (mapOf payload) p in
+        rw (lt-ltb p paramCount l, present-as true l n, old-int-bits l n k y, data-same-device c payload s .device-same, k)
+        (ap (λ z. held (whole z)) (extended-says (numberAt shortWidth payload at) (number-small shortWidth payload at b)))
+
+    -- LAW: and one from any other device as that of its four
+    pub new-int-reads :
+        p < paramCount → named (mapOf payload) p ≡ true → parameterOf c (s .device) p .kind ≡ kindInt → longIntYear ≤ s .year →
+        contentOf c (stored c payload s) p ≡ held (whole (intOf (numberAt longWidth payload (offsetOf c s (mapOf payload) p))))
+    new-int-reads l n k y =
+        named-reads l n ∙ rw (k, width-new (s .year) y) (ap (λ b. held (whole (intOf b))) (held-plain longWidth _ (λ e. omega arith)))
 
     -- LAW: any other parameter reads as before
     pub unnamed-reads : named (mapOf payload) p ≡ false → contentOf c (stored c payload s) p ≡ contentOf c s p

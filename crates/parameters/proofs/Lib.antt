@@ -1,4 +1,5 @@
 pub mod Steps
+pub mod Widths
 pub mod Rests
 pub mod ByBytes
 pub mod Stores

@@ -9,17 +9,17 @@ use native.Mathlib.Omega.{arith}
 use native.Mathlib.Nat.{add-zero, eq-or-lt-of-le}
 use lib.ListN.{length, take, drop, length-append}
 use lib.Seq.{take-at, drop-at, take-add, take-all}
-use Rattle.wire.specs.Number.{leValue, leBytes, Bytes}
+use Rattle.wire.specs.Number.{leValue, leBytes, numberAt, Bytes}
 use Rattle.wire.proofs.Numbers.{length-leBytes, value-of-bytes}
 use Rattle.catalogue.specs.Format.{kindBool}
 use Rattle.catalogue.specs.Lookup.{parameterOf}
 use Rattle.slot.specs.Slot.{paramCount}
 use Rattle.slot.specs.declared.Slot.{Slot}
-use Rattle.slot.proofs.Filling.{number-bytes}
+use Rattle.slot.proofs.Filling.{number-bytes, number-small}
 use Rattle.table.specs.Change.{accepted}
-use Rattle.parameters.specs.Data.{mapBytes, mapOf, named, widthOf, spanIf, offsetOf, valueIn, sizeOf, judged}
+use Rattle.parameters.specs.Data.{mapBytes, mapOf, named, longWidth, widthOf, spanIf, offsetOf, heldBits, valueIn, sizeOf, judged}
 use Rattle.parameters.proofs.Judged.{Judged, judged-means}
-use Rattle.parameters.proofs.Ranges.{width-most}
+use Rattle.parameters.proofs.Widths.{width-most, held-bytes, Carried}
 
 -- the bytes of parameter p: those of its value where the map names it
 abbrev pub bytesOf : List ℕ → Slot → ℕ → (ℕ → ℕ) → ℕ → List ℕ
@@ -81,11 +81,12 @@ module _ (c : List ℕ) (s : Slot) (map : ℕ) (values : ℕ → ℕ) where
 
   -- LAW: each named value is found in its place
   pub value-back :
-      (p : ℕ) → p < paramCount → named map p ≡ true → values p < 256 ^ widthOf c s p →
+      (p : ℕ) → p < paramCount → named map p ≡ true → Carried (widthOf c s p) (values p) →
       valueIn c s map (payloadOf c s map values) p ≡ values p
   unfolding valuesTo
   value-back p l n fit =
-      let v = leBytes (widthOf c s p) (values p) in
+      let w = widthOf c s p in
+      let v = leBytes w (values p) in
       let k = behind paramCount (suc p) (omega arith) in
       let r = k .0 in
       let front = leBytes mapBytes map ++ upTo p in
@@ -96,15 +97,17 @@ module _ (c : List ℕ) (s : Slot) (map : ℕ) (values : ℕ → ℕ) where
       sym (append-assoc (leBytes mapBytes map) (upTo p) (v ++ r)) in
       let size : length front ≡ offsetOf c s map p =
       omega (arith, length-append (leBytes mapBytes map) (upTo p), length-leBytes mapBytes map, length-to p) in
-      ap (λ (x : List ℕ). leValue (take (widthOf c s p) (drop (offsetOf c s map p) x))) split ∙
-      ap (λ (x : List ℕ). leValue (take (widthOf c s p) x)) (drop-at front (v ++ r) (offsetOf c s map p) size) ∙
-      ap leValue (take-at v r (widthOf c s p) (length-leBytes (widthOf c s p) (values p))) ∙
-      value-of-bytes (widthOf c s p) (values p) fit
+      let found : numberAt w payload (offsetOf c s map p) ≡ fit .0 =
+      ap (λ (x : List ℕ). leValue (take w (drop (offsetOf c s map p) x))) split ∙
+      ap (λ (x : List ℕ). leValue (take w x)) (drop-at front (v ++ r) (offsetOf c s map p) size) ∙
+      ap leValue (take-at v r w (length-leBytes w (values p)) ∙ ap (leBytes w) (fit .2) ∙ held-bytes w (fit .0) (fit .1)) ∙
+      value-of-bytes w (fit .0) (fit .1) in
+      ap (heldBits w) found ∙ sym (fit .2)
 
-  -- LAW: it fits the device where each named parameter is readable, each value has its kind's size and each flag is 0 or 1
+  -- LAW: it fits the device where each named parameter is readable, its bytes carry each value and each flag is 0 or 1
   pub layout-judged :
       map < 2 ^ 32 → ((p : ℕ) → p < paramCount → named map p ≡ true → parameterOf c (s .device) p .readable ≡ true) →
-      ((p : ℕ) → p < paramCount → named map p ≡ true → values p < 256 ^ widthOf c s p) →
+      ((p : ℕ) → p < paramCount → named map p ≡ true → Carried (widthOf c s p) (values p)) →
       ((p : ℕ) → p < paramCount → named map p ≡ true → parameterOf c (s .device) p .kind ≡ kindBool → values p ≤ 1) →
       Judged c s (payloadOf c s map values)
   layout-judged h readable fit flag =
@@ -121,13 +124,13 @@ module _ (c : List ℕ) (s : Slot) (map : ℕ) (values : ℕ → ℕ) where
       }
 
 -- a value's bytes keep the offset within the map and 4 bytes for each parameter
-offset-most : (c : List ℕ) (s : Slot) (map n : ℕ) → (mapBytes ≤ offsetOf c s map n) × (offsetOf c s map n ≤ mapBytes + 4 * n)
+offset-most : (c : List ℕ) (s : Slot) (map n : ℕ) → (mapBytes ≤ offsetOf c s map n) × (offsetOf c s map n ≤ mapBytes + longWidth * n)
 unfolding offsetOf
 offset-most c s map zero = (omega arith, omega arith)
 offset-most c s map (suc n) = let k = offset-most c s map n in let g = go (named map n) in (omega (arith, k .0), omega (arith, k .1, g))
   where
-    go : (b : Bool) → spanIf c s n b ≤ 4
-    go true = width-most (parameterOf c (s .device) n .kind)
+    go : (b : Bool) → spanIf c s n b ≤ longWidth
+    go true = width-most (s .year) (parameterOf c (s .device) n .kind)
     go false = omega arith
 
 module _ (c : List ℕ) (s : Slot) (payload : List ℕ) (j : judged c s payload ≡ accepted) where
@@ -137,8 +140,11 @@ module _ (c : List ℕ) (s : Slot) (payload : List ℕ) (j : judged c s payload 
   abbrev values : ℕ → ℕ
   values = valueIn c s (mapOf payload) payload
 
+  abbrev number : ℕ → ℕ
+  number p = numberAt (widthOf c s p) payload (offsetOf c s (mapOf payload) p)
+
   -- LAW: an accepted payload has its map and at most 4 bytes for each parameter: what a packet holds
-  pub accepted-length : (mapBytes ≤ length payload) × (length payload ≤ mapBytes + 4 * paramCount)
+  pub accepted-length : (mapBytes ≤ length payload) × (length payload ≤ mapBytes + longWidth * paramCount)
   unfolding sizeOf
   accepted-length =
       let fits = judged-means c s payload j .fits in
@@ -161,7 +167,9 @@ module _ (c : List ℕ) (s : Slot) (payload : List ℕ) (j : judged c s payload 
           take (offsetOf c s map n) payload ++ cond isNamed (leBytes (widthOf c s n) (values n)) [] ≡
           take (offsetOf c s map n + spanIf c s n isNamed) payload
       more true l =
-          ap (λ (x : List ℕ). take (offsetOf c s map n) payload ++ x) (number-bytes (widthOf c s n) payload (offsetOf c s map n) b l)
+          ap (λ (x : List ℕ). take (offsetOf c s map n) payload ++ x)
+          (held-bytes (widthOf c s n) (number n) (number-small (widthOf c s n) payload (offsetOf c s map n) b) ∙
+          number-bytes (widthOf c s n) payload (offsetOf c s map n) b l)
           ∙ sym (take-add (offsetOf c s map n) (widthOf c s n) payload)
       more false l = append-nil (take (offsetOf c s map n) payload) ∙ rw (add-zero (offsetOf c s map n))
 

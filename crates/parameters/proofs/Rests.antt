@@ -12,7 +12,7 @@ use Rattle.wire.proofs.Chains.{every-more}
 use Rattle.wire.specs.Every.{every}
 use Rattle.slot.specs.Slot.{paramCount}
 use Rattle.slot.specs.declared.Slot.{Slot}
-use Rattle.parameters.specs.Data.{allFlags, named, flagIf, valueIn, offsetOf, storedTo}
+use Rattle.parameters.specs.Data.{named, readableIf, allReadable, flagIf, allFlags, valueIn, offsetOf, storedTo}
 use Rattle.parameters.proofs.Steps.{rest-more, offset-unnamed, stored-unnamed}
 
 -- what holds at p and goes from each index to the next holds from p on
@@ -52,10 +52,17 @@ module _ (map : ℕ) {rest p : ℕ} (h : p ≤ paramCount) (e : rest ≡ map / 2
       from-on (λ q. storedTo c s map payload q ≡ storedTo c s map payload p) p refl
       (λ q l i. stored-unnamed c s map q payload (unnamed q l) ∙ i) paramCount h
 
+  -- a test that holds where no parameter is named
+  every-rest : (test : ℕ → Bool) → ((q : ℕ) → named map q ≡ false → test q ≡ true) → every p test ≡ true → true ≡ every paramCount test
+  every-rest test t i = sym (from-on (λ q. every q test ≡ true) p i (λ q l k. every-more q test k (t q (unnamed q l))) paramCount h)
+
+  pub readables-rest :
+      (c : List ℕ) (s : Slot) → every p (λ q. readableIf c s q (named map q)) ≡ true → true ≡ allReadable c s map
+  unfolding allReadable
+  readables-rest c s = every-rest (λ q. readableIf c s q (named map q)) (λ q n. rw n)
+
   pub flags-rest :
       (c : List ℕ) (s : Slot) (payload : List ℕ) →
       every p (λ q. flagIf c s q (named map q) (valueIn c s map payload q)) ≡ true → true ≡ allFlags c s map payload
   unfolding allFlags
-  flags-rest c s payload i =
-      let test : ℕ → Bool = λ q. flagIf c s q (named map q) (valueIn c s map payload q) in
-      sym (from-on (λ q. every q test ≡ true) p i (λ q l k. every-more q test k (rw (unnamed q l))) paramCount h)
+  flags-rest c s payload = every-rest (λ q. flagIf c s q (named map q) (valueIn c s map payload q)) (λ q n. rw n)

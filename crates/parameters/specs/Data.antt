@@ -4,12 +4,13 @@ use Prim.Native.Nat.{ℕ, zero, suc, _+_, _/_, _%_, _^_}
 use mathlib.Core.Bool.{Bool, _&&_, _||_, not, cond}
 use mathlib.Core.List.{List}
 use mathlib.Core.Option.{Option, none, some}
-use lib.Dec.{leb, eqb}
+use lib.Dec.{ltb, leb, eqb}
 use lib.ListN.{length}
 use Rattle.wire.specs.Every.{every}
 use Rattle.wire.specs.Number.{numberAt}
 use Rattle.catalogue.specs.Format.{kindInt, kindFloat, kindBool}
 use Rattle.catalogue.specs.Lookup.{parameterOf}
+use Rattle.value.specs.Meaning.{extended}
 use Rattle.slot.specs.Slot.{paramCount, withValue}
 use Rattle.slot.specs.Row.{slotOf, slotBytes, isRow}
 use Rattle.slot.specs.Rows.{rowIn}
@@ -35,13 +36,24 @@ bitOf map p = map / 2 ^ p % 2
 abbrev pub named : ℕ → ℕ → Bool
 named map p = eqb (bitOf map p) 1
 
--- "INT is 4 bytes ..; FLOAT is 4 bytes ..; BOOL is one byte"
-unfoldable pub width : ℕ → ℕ
-width kind = cond (eqb kind kindInt) 4 (cond (eqb kind kindFloat) 4 1)
+-- "Guests whose year byte is below 6 send an INT as two bytes": the first year whose devices send four
+abbrev pub longIntYear : ℕ
+longIntYear = 6
 
--- how many bytes a value of parameter p has in a packet of this row's device
+-- the two widths of an INT; the longer one is also a FLOAT's
+abbrev pub shortWidth : ℕ
+shortWidth = 2
+
+abbrev pub longWidth : ℕ
+longWidth = 4
+
+-- "INT is 4 bytes ..; FLOAT is 4 bytes ..; BOOL is one byte", and the INT of an older device two
+unfoldable pub width : ℕ → ℕ → ℕ
+width year kind = cond (eqb kind kindInt) (cond (ltb year longIntYear) shortWidth longWidth) (cond (eqb kind kindFloat) longWidth 1)
+
+-- "Width goes by the seated year": how many bytes a value of parameter p has in a packet of this row's device
 abbrev pub widthOf : List ℕ → Slot → ℕ → ℕ
-widthOf c s p = width (parameterOf c (s .device) p .kind)
+widthOf c s p = width (s .year) (parameterOf c (s .device) p .kind)
 
 -- a value is there where its bit is set
 abbrev pub spanIf : List ℕ → Slot → ℕ → Bool → ℕ
@@ -52,9 +64,17 @@ unfoldable pub offsetOf : List ℕ → Slot → ℕ → ℕ → ℕ
 offsetOf c s map zero = mapBytes
 offsetOf c s map (suc p) = offsetOf c s map p + spanIf c s p (named map p)
 
--- the value that a payload has for parameter p: its bytes, "low byte first"
+-- "the signed number is held": what the number of a value's bytes is held as; two bytes are an INT's
+unfoldable pub heldBits : ℕ → ℕ → ℕ
+heldBits bytes number = cond (eqb bytes shortWidth) (extended number) number
+
+-- the value of so many bytes at an offset, "low byte first"
+abbrev pub valueAt : ℕ → List ℕ → ℕ → ℕ
+valueAt bytes payload at = heldBits bytes (numberAt bytes payload at)
+
+-- the value that a payload has for parameter p
 abbrev pub valueIn : List ℕ → Slot → ℕ → List ℕ → ℕ → ℕ
-valueIn c s map payload p = numberAt (widthOf c s p) payload (offsetOf c s map p)
+valueIn c s map payload p = valueAt (widthOf c s p) payload (offsetOf c s map p)
 
 -- 16, "a set bit has no readable parameter"
 abbrev pub readableIf : List ℕ → Slot → ℕ → Bool → Bool

@@ -5,41 +5,53 @@ use table::Answer;
 use table::Place;
 ghost use Prim.Native.Nat.{_≤_};
 ghost use mathlib.Core.Path.{_≡_};
+ghost use mathlib.Core.Logic.{_⊎_};
 ghost use mathlib.Core.Bool.{true, _&&_, _||_, not, cond};
 ghost use lib.Dec.{leb, eqb};
-ghost use Rattle.wire.specs.Number.{numberAt};
 ghost use Rattle.catalogue.specs.Format.{kindBool, described};
 ghost use Rattle.catalogue.specs.Lookup.{deviceOf, BytesIn};
 ghost use Rattle.slot.specs.Slot.{paramCount};
 ghost use Rattle.slot.specs.Row.{slotOf, slotBytes, isRow};
 ghost use Rattle.table.specs.Change.{verdictOf};
-ghost use Rattle.parameters.specs.Data.{width, allReadable, sizeOf, allFlags, judged, storedTo, changedRow, applied};
+ghost use Rattle.parameters.specs.Data.{shortWidth, longWidth, width, valueAt, allReadable, sizeOf, allFlags, judged, storedTo, changedRow, applied};
 
 // The bytes before the first value: the map's.
 const MAP_BYTES: usize = 4;
 
-// How many bytes a value of this kind has in a packet.
-fn width_of(kind: u8) -> usize
-    ensures { λ r. ⌜ (r ≡ width kind) × (r ≤ 4) ⌝ }
+// The first year whose devices send an INT as four bytes.
+const LONG_INT_YEAR: u8 = 6;
+
+// The bytes of an older device's INT, and those of every other number.
+const SHORT: usize = 2;
+
+const LONG: usize = 4;
+
+// How many bytes a value of this kind has in a packet of a device of this year. All that follows goes by it.
+fn width_of(year: u8, kind: u8) -> usize
+    ensures { λ r. ⌜ (r ≡ width year kind) × (r ≤ longWidth) ⌝ }
 {
     if kind == catalogue::INT {
-        return 4;
+        if year < LONG_INT_YEAR {
+            return SHORT;
+        }
+        return LONG;
     }
     if kind == catalogue::FLOAT {
-        return 4;
+        return LONG;
     }
     1
 }
 
-// The value of this kind at an offset.
-fn value_at(kind: u8, payload: &[u8], at: usize) -> u32
-    ensures { λ r. ⌜ r ≡ numberAt (width kind) (now (payload .entry)) at ⌝ }
+// The value of this width at an offset, as it is held.
+fn value_at(w: usize, payload: &[u8], at: usize) -> u32
+    requires { ⌜ (w ≡ 1) ⊎ ((w ≡ shortWidth) ⊎ (w ≡ longWidth)) ⌝ }
+    ensures { λ r. ⌜ r ≡ valueAt w (now (payload .entry)) at ⌝ }
 {
-    if kind == catalogue::INT {
+    if w == LONG {
         return numbers::u32_at(payload, at);
     }
-    if kind == catalogue::FLOAT {
-        return numbers::u32_at(payload, at);
+    if w == SHORT {
+        return value::extend(numbers::u16_at(payload, at));
     }
     wire::byte_at(payload, at) as u32
 }
@@ -56,15 +68,15 @@ fn is_readable_if(b: u8, bit: u32) -> bool
 }
 
 // 16: each parameter that the map names is readable. Here and below `bytes` are those of the device type; the contract alone
-// asks for the catalogue and the row. This loop makes all 32 rounds: one that ends early, as the others do, compiles to a larger
-// stack frame and more instructions for each packet.
+// asks for the catalogue and the row. The loop ends when no set bit is left, as the others do, since most packets name few
+// parameters.
 fn are_readable(c: &[u8], row: &[u8], bytes: [u8; MAX_PARAMETERS], map: u32) -> bool
     requires { ⌜ BytesIn (now c) (deviceOf (now c) (slotOf (now row) .device)) bytes ⌝ }
     ensures { λ r. ⌜ r ≡ allReadable (now (c .entry)) (slotOf (now (row .entry))) map ⌝ }
 {
     let mut rest = map;
     let mut p: usize = 0;
-    while p < MAX_PARAMETERS {
+    while 0 < rest {
         if is_readable_if(bytes[p], rest % 2) {
             rest = rest / 2;
             p += 1;
@@ -76,40 +88,39 @@ fn are_readable(c: &[u8], row: &[u8], bytes: [u8; MAX_PARAMETERS], map: u32) -> 
 }
 
 // How many bytes the parameter takes in the packet.
-fn span_if(b: u8, bit: u32) -> usize
-    ensures { λ r. ⌜ (r ≡ cond (eqb bit 1) (width (described b .kind)) 0) × (r ≤ 4) ⌝ }
+fn span_if(year: u8, b: u8, bit: u32) -> usize
+    ensures { λ r. ⌜ (r ≡ cond (eqb bit 1) (width year (described b .kind)) 0) × (r ≤ longWidth) ⌝ }
 {
     if bit == 1 {
         let q = catalogue::describe(b);
-        return width_of(q.kind);
+        return width_of(year, q.kind);
     }
     0
 }
 
-// 17: how many bytes a payload with this map has. Here and below the loop ends when no set bit is left, since most packets
-// name few parameters.
-fn size_of(c: &[u8], row: &[u8], bytes: [u8; MAX_PARAMETERS], map: u32) -> usize
-    requires { ⌜ BytesIn (now c) (deviceOf (now c) (slotOf (now row) .device)) bytes ⌝ }
+// 17: how many bytes a payload with this map has.
+fn size_of(c: &[u8], row: &[u8], year: u8, bytes: [u8; MAX_PARAMETERS], map: u32) -> usize
+    requires { ⌜ (year ≡ slotOf (now row) .year) × BytesIn (now c) (deviceOf (now c) (slotOf (now row) .device)) bytes ⌝ }
     ensures { λ r. ⌜ r ≡ sizeOf (now (c .entry)) (slotOf (now (row .entry))) map ⌝ }
 {
     let mut rest = map;
     let mut at: usize = MAP_BYTES;
     let mut p: usize = 0;
     while 0 < rest {
-        at += span_if(bytes[p], rest % 2);
+        at += span_if(year, bytes[p], rest % 2);
         rest = rest / 2;
         p += 1;
     }
     at
 }
 
-fn is_flag_if(b: u8, bit: u32, payload: &[u8], at: usize) -> bool
-    ensures { λ r. ⌜ r ≡ (not (eqb bit 1 && eqb (described b .kind) kindBool) || leb (numberAt (width (described b .kind)) (now (payload .entry)) at) 1) ⌝ }
+fn is_flag_if(year: u8, b: u8, bit: u32, payload: &[u8], at: usize) -> bool
+    ensures { λ r. ⌜ r ≡ (not (eqb bit 1 && eqb (described b .kind) kindBool) || leb (valueAt (width year (described b .kind)) (now (payload .entry)) at) 1) ⌝ }
 {
     if bit == 1 {
         let q = catalogue::describe(b);
         if q.kind == catalogue::BOOL {
-            let v = value_at(q.kind, payload, at);
+            let v = value_at(width_of(year, q.kind), payload, at);
             return v <= 1;
         }
     }
@@ -117,16 +128,23 @@ fn is_flag_if(b: u8, bit: u32, payload: &[u8], at: usize) -> bool
 }
 
 // 18: each BOOL that the map names is 0 or 1.
-fn are_flags(c: &[u8], row: &[u8], bytes: [u8; MAX_PARAMETERS], map: u32, payload: &[u8]) -> bool
-    requires { ⌜ BytesIn (now c) (deviceOf (now c) (slotOf (now row) .device)) bytes ⌝ }
+fn are_flags(
+    c: &[u8],
+    row: &[u8],
+    year: u8,
+    bytes: [u8; MAX_PARAMETERS],
+    map: u32,
+    payload: &[u8],
+) -> bool
+    requires { ⌜ (year ≡ slotOf (now row) .year) × BytesIn (now c) (deviceOf (now c) (slotOf (now row) .device)) bytes ⌝ }
     ensures { λ r. ⌜ r ≡ allFlags (now (c .entry)) (slotOf (now (row .entry))) map (now (payload .entry)) ⌝ }
 {
     let mut rest = map;
     let mut at: usize = MAP_BYTES;
     let mut p: usize = 0;
     while 0 < rest {
-        if is_flag_if(bytes[p], rest % 2, payload, at) {
-            at += span_if(bytes[p], rest % 2);
+        if is_flag_if(year, bytes[p], rest % 2, payload, at) {
+            at += span_if(year, bytes[p], rest % 2);
             rest = rest / 2;
             p += 1;
         } else {
@@ -136,14 +154,14 @@ fn are_flags(c: &[u8], row: &[u8], bytes: [u8; MAX_PARAMETERS], map: u32, payloa
     true
 }
 
-fn judge(c: &[u8], row: &[u8], bytes: [u8; MAX_PARAMETERS], payload: &[u8]) -> Answer
-    requires { ⌜ BytesIn (now c) (deviceOf (now c) (slotOf (now row) .device)) bytes ⌝ }
+fn judge(c: &[u8], row: &[u8], year: u8, bytes: [u8; MAX_PARAMETERS], payload: &[u8]) -> Answer
+    requires { ⌜ (year ≡ slotOf (now row) .year) × BytesIn (now c) (deviceOf (now c) (slotOf (now row) .device)) bytes ⌝ }
     ensures { λ r. ⌜ verdictOf r ≡ judged (now (c .entry)) (slotOf (now (row .entry))) (now (payload .entry)) ⌝ }
 {
     let map = numbers::u32_at(payload, 0);
     if are_readable(c, row, bytes, map) {
-        if size_of(c, row, bytes, map) == payload.len() {
-            if are_flags(c, row, bytes, map, payload) {
+        if size_of(c, row, year, bytes, map) == payload.len() {
+            if are_flags(c, row, year, bytes, map, payload) {
                 return Answer::Accepted;
             }
             return Answer::Refused(18);
@@ -154,8 +172,8 @@ fn judge(c: &[u8], row: &[u8], bytes: [u8; MAX_PARAMETERS], payload: &[u8]) -> A
 }
 
 // The values that the payload has are put into the row, in place.
-fn store(c: &[u8], row: &mut [u8], bytes: [u8; MAX_PARAMETERS], map: u32, payload: &[u8])
-    requires { ⌜ BytesIn (now c) (deviceOf (now c) (slotOf (now row) .device)) bytes × (isRow (now row) ≡ true) ⌝ }
+fn store(c: &[u8], row: &mut [u8], year: u8, bytes: [u8; MAX_PARAMETERS], map: u32, payload: &[u8])
+    requires { ⌜ (year ≡ slotOf (now row) .year) × BytesIn (now c) (deviceOf (now c) (slotOf (now row) .device)) bytes × (isRow (now row) ≡ true) ⌝ }
     ensures { λ _. ⌜ now (row .exit) ≡ slotBytes (storedTo (now (c .entry)) (slotOf (now (row .entry))) map (now (payload .entry)) paramCount) ⌝ }
 {
     let mut rest = map;
@@ -164,9 +182,10 @@ fn store(c: &[u8], row: &mut [u8], bytes: [u8; MAX_PARAMETERS], map: u32, payloa
     while 0 < rest {
         if rest % 2 == 1 {
             let q = catalogue::describe(bytes[p]);
-            let v = value_at(q.kind, payload, at);
+            let w = width_of(year, q.kind);
+            let v = value_at(w, payload, at);
             slot::put_value(&mut *row, p, v);
-            at += width_of(q.kind);
+            at += w;
         }
         rest = rest / 2;
         p += 1;
@@ -180,12 +199,13 @@ fn change_row(c: &[u8], row: &mut [u8], payload: &[u8]) -> Answer
     if !slot::is_row(&*row) {
         return Answer::Refused(9);
     }
+    let year = row[slot::YEAR];
     let d = catalogue::find_device(c, row[slot::DEVICE]);
     let bytes = catalogue::parameter_bytes(c, d);
-    let a = judge(c, &*row, bytes, payload);
+    let a = judge(c, &*row, year, bytes, payload);
     match a {
         Answer::Accepted => {
-            store(c, row, bytes, numbers::u32_at(payload, 0), payload);
+            store(c, row, year, bytes, numbers::u32_at(payload, 0), payload);
             Answer::Accepted
         }
         Answer::Refused(number) => Answer::Refused(number),

@@ -21,7 +21,7 @@ const SOCKET: usize = 1;
 
 pub const DEVICE: usize = 2;
 
-const YEAR: usize = 3;
+pub const YEAR: usize = 3;
 
 const UID: usize = 4;
 

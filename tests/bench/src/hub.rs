@@ -5,7 +5,7 @@ use crate::cases::{repeat, Case, Side};
 use crate::packets::packet_of;
 use archive::{hub_detach, hub_publish, hub_read, hub_receive};
 use second_reader::calls::{sized, value};
-use second_reader::catalogue::PARAMETER_LIMIT;
+use second_reader::catalogue::{LONG_INT_YEAR, PARAMETER_LIMIT};
 use second_reader::hub::{detach, publish, read_parameter, receive};
 use second_reader::list::LIST_LIMIT;
 use second_reader::packet::{ACK, DEVICE_DATA, LOG};
@@ -34,6 +34,10 @@ enum Call {
     /// The parameters in turn, so that no two calls that follow each other are the same.
     Read,
 }
+
+/// Parameter bytes of a catalogue.
+const READABLE_INT: u8 = 4;
+const READABLE_FLOAT: u8 = 5;
 
 /// The numbers of an answer, 0 where it has fewer, and what is left in table and list.
 type Outcome = ([u64; 3], [u8; TABLE_BYTES], Vec<u8>);
@@ -147,13 +151,27 @@ impl HubCase {
     }
 }
 
+fn ack_of_year(device_type: u8, year: u8, last_of_uid: u8) -> Vec<u8> {
+    packet_of(ACK, &[device_type, year, 1, 2, 3, 4, 5, 6, 7, last_of_uid])
+}
+
 fn ack(device_type: u8, last_of_uid: u8) -> Vec<u8> {
-    packet_of(ACK, &[device_type, 6, 1, 2, 3, 4, 5, 6, 7, last_of_uid])
+    ack_of_year(device_type, LONG_INT_YEAR, last_of_uid)
+}
+
+fn data(map: u32, values: &[u8]) -> Vec<u8> {
+    packet_of(DEVICE_DATA, &[&map.to_le_bytes(), values].concat())
 }
 
 fn floats() -> Vec<u8> {
     let values = (0..32_u8).flat_map(|index| (f32::from(index) + 0.5).to_le_bytes());
-    packet_of(DEVICE_DATA, &u32::MAX.to_le_bytes().into_iter().chain(values).collect::<Vec<_>>())
+    data(u32::MAX, &Vec::from_iter(values))
+}
+
+/// INTs in two bytes, half of them below 0.
+fn short_ints() -> Vec<u8> {
+    let values = (0..32_i16).flat_map(|index| (500 * index - 8000).to_le_bytes());
+    data(u32::MAX, &Vec::from_iter(values))
 }
 
 /// A table under a catalogue, from packets with their sockets.
@@ -165,42 +183,57 @@ fn filled(catalogue: &[u8], packets: &[(u64, Vec<u8>)]) -> Table {
     table
 }
 
-pub fn all() -> Vec<Box<dyn Case>> {
-    let small = vec![1, 7, 3, 3, 0, 4, 9, 6];
-    let data = |map: u8, values: &[u8]| packet_of(DEVICE_DATA, &[&[map, 0, 0, 0], values].concat());
-    let one = filled(&small, &[(3, ack(7, 8)), (3, data(5, &[7, 0, 0, 0, 1]))]);
-    // Four types of 32 readable floats each, and a device of each type.
-    let large = [vec![4, 1, 32, 2, 32, 3, 32, 4, 32, 128, 0], vec![5; 128]].concat();
-    let devices: Vec<_> = (1..=4)
+/// Four types of 32 parameters each, all of this byte, and on sockets 1, 3, 5 and 7 a device
+/// of each type and of this year that has sent these values.
+fn four_devices(parameter: u8, year: u8, values: &[u8]) -> (Vec<u8>, Table) {
+    let catalogue = [vec![4, 1, 32, 2, 32, 3, 32, 4, 32, 128, 0], vec![parameter; 128]].concat();
+    let packets: Vec<_> = (1..=4)
         .flat_map(|at: u8| {
             let socket = 2 * u64::from(at) - 1;
-            [(socket, ack(at, at)), (socket, floats())]
+            [(socket, ack_of_year(at, year, at)), (socket, values.to_vec())]
         })
         .collect();
-    let four = filled(&large, &devices);
+    let table = filled(&catalogue, &packets);
+    (catalogue, table)
+}
+
+fn case(
+    name: &'static str,
+    catalogue: &[u8],
+    table: Table,
+    socket: u64,
+    call: Call,
+) -> Box<dyn Case> {
+    Box::new(HubCase {
+        name,
+        catalogue: catalogue.to_vec(),
+        before: table,
+        before_bytes: table.to_bytes(),
+        call,
+        socket,
+        table,
+        table_bytes: table.to_bytes(),
+        list: vec![0; LIST_LIMIT],
+    })
+}
+
+pub fn all() -> Vec<Box<dyn Case>> {
+    let small = vec![1, 7, 3, 3, 0, 4, 9, 6];
+    let one = filled(&small, &[(3, ack(7, 8)), (3, data(5, &[7, 0, 0, 0, 1]))]);
+    let (large, four) = four_devices(READABLE_FLOAT, LONG_INT_YEAR, &floats());
+    let (large_ints, four_old) = four_devices(READABLE_INT, LONG_INT_YEAR - 1, &short_ints());
     let mut wrong_checksum = floats();
     *wrong_checksum.last_mut().unwrap() ^= 1;
-    let case = |name, catalogue: &[u8], table: Table, socket, call| -> Box<dyn Case> {
-        Box::new(HubCase {
-            name,
-            catalogue: catalogue.to_vec(),
-            before: table,
-            before_bytes: table.to_bytes(),
-            call,
-            socket,
-            table,
-            table_bytes: table.to_bytes(),
-            list: vec![0; LIST_LIMIT],
-        })
-    };
     let on_one = |name, call| case(name, &small, one, 3, call);
     let on_four = |name, call| case(name, &large, four, 5, call);
+    let on_four_old = |name, call| case(name, &large_ints, four_old, 5, call);
     let log = packet_of(LOG, b"motor too warm, resting");
     vec![
         on_one("receive-ack", Call::Receive(ack(7, 8))),
         on_four("receive-ack-full", Call::Receive(ack(3, 3))),
         on_one("receive-data-1", Call::Receive(data(1, &[9, 0, 0, 0]))),
         on_four("receive-data-32", Call::Receive(floats())),
+        on_four_old("receive-data-32-short", Call::Receive(short_ints())),
         on_one("receive-log", Call::Receive(log)),
         on_one("receive-refused", Call::Receive(wrong_checksum.clone())),
         on_four("receive-refused-full", Call::Receive(wrong_checksum)),

@@ -5,6 +5,8 @@ use crate::Error;
 /// Device types in a catalogue, and parameters of a device, at most.
 pub const TYPE_LIMIT: usize = 32;
 pub const PARAMETER_LIMIT: usize = 32;
+/// The first year whose devices send an INT as four bytes; older ones send it as two.
+pub const LONG_INT_YEAR: u8 = 6;
 
 #[derive(Clone, Copy, PartialEq, Eq, Debug)]
 pub enum ValueKind {
@@ -14,9 +16,10 @@ pub enum ValueKind {
 }
 
 impl ValueKind {
-    /// The bytes of a value in a data packet.
-    pub fn width(self) -> usize {
+    /// The bytes of a value in a data packet from a device of this year.
+    pub fn width(self, year: u8) -> usize {
         match self {
+            ValueKind::Int if year < LONG_INT_YEAR => 2,
             ValueKind::Int | ValueKind::Float => 4,
             ValueKind::Bool => 1,
         }

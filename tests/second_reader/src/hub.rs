@@ -8,7 +8,7 @@ use crate::table::{Slot, Table, SOCKETS, UID_BYTES};
 use crate::Error;
 
 /// The bytes of a data packet's map.
-const MAP_BYTES: usize = 4;
+pub const MAP_BYTES: usize = 4;
 
 /// The catalogue, with a lawful table.
 fn judge_table<'a>(catalogue: &'a [u8], table: &Table) -> Result<Catalogue<'a>, Error> {
@@ -86,28 +86,29 @@ fn take_data(
     let device = catalogue.device(slot.device_type).ok_or(Error::TableNotLawful)?;
     let (map, values) = payload.split_at(MAP_BYTES);
     let map = u32::from_le_bytes(map.try_into().unwrap());
-    judge_values(&device, map, values)?;
+    let year = slot.year;
+    judge_values(&device, year, map, values)?;
     let mut rest = values;
     for (index, kind) in named(&device, map) {
-        let (value, behind) = rest.split_at(kind.width());
+        let (value, behind) = rest.split_at(kind.width(year));
         slot.present[index] = true;
-        slot.bits[index] = number(value);
+        slot.bits[index] = held_bits(value);
         rest = behind;
     }
     Ok(())
 }
 
 /// The parameters a map names, as far as they are readable, in rising order.
-fn named<'a>(device: &'a Device, map: u32) -> impl Iterator<Item = (usize, ValueKind)> + 'a {
+pub fn named<'a>(device: &'a Device, map: u32) -> impl Iterator<Item = (usize, ValueKind)> + 'a {
     let set = (0..PARAMETER_LIMIT).filter(move |index| map >> index & 1 == 1);
     set.filter_map(|index| device.readable(index).map(|kind| (index, kind)))
 }
 
-fn judge_values(device: &Device, map: u32, values: &[u8]) -> Result<(), Error> {
+fn judge_values(device: &Device, year: u8, map: u32, values: &[u8]) -> Result<(), Error> {
     if named(device, map).count() != map.count_ones() as usize {
         return Err(Error::ParameterNotReadable);
     }
-    if named(device, map).map(|(_, kind)| kind.width()).sum::<usize>() != values.len() {
+    if named(device, map).map(|(_, kind)| kind.width(year)).sum::<usize>() != values.len() {
         return Err(Error::ValuesLength);
     }
     let mut at = 0;
@@ -115,14 +116,19 @@ fn judge_values(device: &Device, map: u32, values: &[u8]) -> Result<(), Error> {
         if kind == ValueKind::Bool && values[at] > 1 {
             return Err(Error::BoolValue);
         }
-        at += kind.width();
+        at += kind.width(year);
     }
     Ok(())
 }
 
-/// The number of up to four bytes, low byte first.
-fn number(bytes: &[u8]) -> u32 {
-    bytes.iter().rev().fold(0, |number, &byte| number << 8 | u32::from(byte))
+/// The bits that are held for a value, whose bytes come low byte first. Two bytes are a
+/// short INT, which keeps its sign.
+fn held_bits(value: &[u8]) -> u32 {
+    match *value {
+        [flag] => flag.into(),
+        [low, high] => i32::from(i16::from_le_bytes([low, high])) as u32,
+        _ => u32::from_le_bytes(value.try_into().unwrap()),
+    }
 }
 
 /// Empties the slot of the device at a socket.

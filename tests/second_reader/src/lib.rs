@@ -4,7 +4,8 @@
 //! Every call judges its whole input first and then fills the lent buffers, so an
 //! error leaves them as they were. No call allocates, apart from those that answer
 //! a program's output as text. The module `definition` says the same once more in the
-//! paper's own words, with no regard to speed.
+//! paper's own words, with no regard to speed. `generate` makes inputs for the comparison,
+//! and `widths` tells what they show.
 
 pub mod calls;
 pub mod catalogue;
@@ -19,5 +20,6 @@ pub mod replay;
 pub mod stream;
 pub mod table;
 pub mod text;
+pub mod widths;
 
 pub use error::Error;

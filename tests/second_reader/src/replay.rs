@@ -19,6 +19,12 @@ pub const PRINT_TABLE: u8 = 6;
 /// What the replay program prints for this standard input. The papers do not say what
 /// it prints where the catalogue itself is cut short; here that is nothing.
 pub fn replay_output(input: &[u8]) -> String {
+    replay_watched(input, |_, _, _, _| {})
+}
+
+/// The same; each packet is shown before it is received, with the catalogue, the table that
+/// it comes to and its socket.
+pub fn replay_watched(input: &[u8], mut watch: impl FnMut(&[u8], &Table, u64, &[u8])) -> String {
     if input.len() > REPLAY_LIMIT {
         return String::from("too long\n");
     }
@@ -31,7 +37,7 @@ pub fn replay_output(input: &[u8]) -> String {
         if rest.bytes.is_empty() {
             break;
         }
-        let Some(line) = record(&mut rest, catalogue, &mut table) else {
+        let Some(line) = record(&mut rest, catalogue, &mut table, &mut watch) else {
             let _ = writeln!(output, "bad record {number}");
             break;
         };
@@ -63,13 +69,19 @@ impl<'a> Bytes<'a> {
 }
 
 /// The line for the next record, or none for a bad one.
-fn record(rest: &mut Bytes, catalogue: &[u8], table: &mut Table) -> Option<String> {
+fn record(
+    rest: &mut Bytes,
+    catalogue: &[u8],
+    table: &mut Table,
+    watch: &mut impl FnMut(&[u8], &Table, u64, &[u8]),
+) -> Option<String> {
     match rest.byte()? {
         RECEIVE => {
-            let socket = rest.byte()?;
+            let socket = rest.byte()?.into();
             let length = rest.number()?;
             let packet = rest.take(length)?;
-            let answer = hub::receive(catalogue, table, socket.into(), packet);
+            watch(catalogue, table, socket, packet);
+            let answer = hub::receive(catalogue, table, socket, packet);
             Some(line(answer.map(|consumed| format!("took {consumed}"))))
         }
         DETACH => {

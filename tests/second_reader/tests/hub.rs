@@ -1,8 +1,8 @@
 //! Catalogue, table and the hub's calls: document 01's bench cases, the readings of its
-//! open points, and what holds for any table.
+//! open points, the widths of INTs by ticket c of 02, and what holds for any table.
 
 use second_reader::calls;
-use second_reader::catalogue::Catalogue;
+use second_reader::catalogue::{Catalogue, LONG_INT_YEAR};
 use second_reader::definition::hub as definition;
 use second_reader::generate::list::{image, Element};
 use second_reader::generate::{catalogue as generate_catalogue, packet, table as generate_table};
@@ -14,6 +14,11 @@ use second_reader::table::{Slot, Table, PRESENCE_AT, SLOT_BYTES, TABLE_BYTES};
 use second_reader::Error;
 use Element::{Blob, Int, List};
 
+/// Type 9: INT, FLOAT, BOOL and INT, all readable.
+const MIXED: [u8; 9] = [0x01, 0x09, 0x04, 0x04, 0x00, 0x04, 0x05, 0x06, 0x04];
+/// The last year with short INTs, and the first with long ones.
+const OLD: u8 = LONG_INT_YEAR - 1;
+const NEW: u8 = LONG_INT_YEAR;
 /// Type 7: INT readable, FLOAT writable, BOOL readable.
 const CATALOGUE: [u8; 8] = [0x01, 0x07, 0x03, 0x03, 0x00, 0x04, 0x09, 0x06];
 const ACK_PACKET: [u8; 16] = [
@@ -26,8 +31,12 @@ fn packet_of(packet_type: u8, payload: &[u8]) -> Vec<u8> {
     packet::packet_of(&packet::message_of(packet_type, payload))
 }
 
+fn ack_of_year(device_type: u8, year: u8, uid: u8) -> Vec<u8> {
+    packet_of(ACK, &[device_type, year, 1, 2, 3, 4, 5, 6, 7, uid])
+}
+
 fn ack(device_type: u8, uid: u8) -> Vec<u8> {
-    packet_of(ACK, &[device_type, 6, 1, 2, 3, 4, 5, 6, 7, uid])
+    ack_of_year(device_type, NEW, uid)
 }
 
 /// A data packet with this map and these value bytes.
@@ -35,33 +44,48 @@ fn data(map: u32, values: &[u8]) -> Vec<u8> {
     packet_of(DEVICE_DATA, &[&map.to_le_bytes()[..], values].concat())
 }
 
-/// A hub with catalogue C that sees after each call that a refusal changed nothing.
+/// A hub that sees after each call that a refusal changed nothing.
 struct Hub {
+    catalogue: &'static [u8],
     table: Table,
 }
 
 impl Hub {
+    /// With catalogue C.
     fn new() -> Hub {
-        Hub { table: Table::default() }
+        Hub { catalogue: &CATALOGUE, table: Table::default() }
+    }
+
+    /// With devices of type 9 on socket 0 and on, each of its year.
+    fn of_years(years: &[u8]) -> Hub {
+        let mut hub = Hub { catalogue: &MIXED, table: Table::default() };
+        for (socket, &year) in years.iter().enumerate() {
+            hub.receive(socket as u64, &ack_of_year(9, year, socket as u8)).unwrap();
+        }
+        hub
     }
 
     fn receive(&mut self, socket: u64, bytes: &[u8]) -> Result<usize, u64> {
         let before = self.table;
-        let answer = receive(&CATALOGUE, &mut self.table, socket, bytes);
+        let answer = receive(self.catalogue, &mut self.table, socket, bytes);
         assert!(answer.is_ok() || self.table == before);
-        assert!(self.table.lawful(&Catalogue::parse(&CATALOGUE).unwrap()));
+        assert!(self.table.lawful(&Catalogue::parse(self.catalogue).unwrap()));
         answer.map_err(|error| error.number())
     }
 
     fn detach(&mut self, socket: u64) -> Result<(), u64> {
         let before = self.table;
-        let answer = detach(&CATALOGUE, &mut self.table, socket);
+        let answer = detach(self.catalogue, &mut self.table, socket);
         assert!(answer.is_ok() || self.table == before);
         answer.map_err(|error| error.number())
     }
 
+    fn read(&self, socket: u64, index: u64) -> Option<Value> {
+        read_parameter(self.catalogue, &self.table, socket, index).unwrap()
+    }
+
     fn published(&self) -> Vec<u8> {
-        published(&CATALOGUE, &self.table)
+        published(self.catalogue, &self.table)
     }
 }
 
@@ -219,6 +243,191 @@ fn data_is_judged_in_order() {
     assert_eq!(read_parameter(&CATALOGUE, &hub.table, 3, 2), Ok(Some(Value::Flag(false))));
 }
 
+/// Each year takes an INT in one of the two widths and refuses the other with 17: "guests
+/// whose year byte is below 6" send two bytes.
+#[test]
+fn int_widths_by_year() {
+    for year in 0..=255 {
+        let mut hub = Hub::of_years(&[year]);
+        let (short, long) = (data(1, &[0xff; 2]), data(1, &[0xff; 4]));
+        let (taken, refused) = if year < 6 { (short, long) } else { (long, short) };
+        assert_eq!(hub.receive(0, &refused), Err(17), "{year}");
+        assert_eq!(hub.read(0, 0), None);
+        assert_eq!(hub.receive(0, &taken), Ok(taken.len()), "{year}");
+        assert_eq!(hub.table.slots[0].bits[0], 0xffff_ffff);
+        assert_eq!(hub.read(0, 0), Some(Value::Int(-1)));
+        assert_eq!(hub.receive(0, &refused), Err(17), "{year}");
+    }
+}
+
+/// Two bytes are held as 32 bits with the sign of the two, four bytes as they are.
+#[test]
+fn ints_keep_their_sign() {
+    let mut hub = Hub::of_years(&[OLD, NEW]);
+    for (bytes, number) in [
+        ([0xff, 0xff], -1),
+        ([0x00, 0x80], -32768),
+        ([0x01, 0x80], -32767),
+        ([0xff, 0x7f], 32767),
+        ([0x00, 0xff], -256),
+        ([0xff, 0x00], 255),
+        ([0x80, 0x00], 128),
+        ([0x34, 0x12], 0x1234),
+        ([0x00, 0x00], 0),
+    ] {
+        hub.receive(0, &data(1, &bytes)).unwrap();
+        assert_eq!(hub.read(0, 0), Some(Value::Int(number)));
+        assert_eq!(hub.table.slots[0].bits[0], number as u32);
+        // The same two bytes below two zeros are a number of 0 or above.
+        hub.receive(1, &data(1, &[bytes[0], bytes[1], 0, 0])).unwrap();
+        assert_eq!(hub.read(1, 0), Some(Value::Int(number & 0xffff)));
+        let long = data(1, &i32::to_le_bytes(number));
+        hub.receive(1, &long).unwrap();
+        assert_eq!(hub.read(1, 0), Some(Value::Int(number)));
+    }
+}
+
+/// A row's bytes and the posted list for an INT of -2 from an old and from a new device.
+#[test]
+fn short_ints_in_row_and_list() {
+    let mut table = [0; TABLE_BYTES];
+    for (socket, year, bytes) in [(1, OLD, &[0xfe, 0xff][..]), (2, NEW, &[0xfe, 0xff, 0xff, 0xff])]
+    {
+        let ack = ack_of_year(9, year, socket);
+        assert_eq!(calls::receive(&MIXED, &mut table, socket.into(), &ack), [0, 16]);
+        let packet = data(8, bytes);
+        let consumed = packet.len() as u64;
+        assert_eq!(calls::receive(&MIXED, &mut table, socket.into(), &packet), [0, consumed]);
+    }
+    let mut rows = [0; TABLE_BYTES];
+    let mut posted = vec![0, 1, 0, 0, 2, 0, 0, 0];
+    for (socket, year) in [(1, OLD), (2, NEW)] {
+        let row = &mut rows[usize::from(socket - 1) * SLOT_BYTES..];
+        row[..PRESENCE_AT].copy_from_slice(&[1, socket, 9, year, 1, 2, 3, 4, 5, 6, 7, socket]);
+        row[PRESENCE_AT + 3] = 1;
+        row[56..60].copy_from_slice(&[0xfe, 0xff, 0xff, 0xff]);
+        posted
+            .extend([0, 1, 0, 0, 4, 0, 0, 0, 1, 0, 0, 0, socket, 0, 0, 0, 1, 0, 0, 0, 9, 0, 0, 0]);
+        posted.extend([12, 0, 0, 0, 8, 0, 0, 0, 1, 2, 3, 4, 5, 6, 7, socket]);
+        posted.extend([1, 1, 0, 0, 2, 0, 0, 0, 3, 0, 0, 0, 0xfe, 0xff, 0xff, 0xff]);
+    }
+    assert_eq!(table, rows);
+    let mut list = [0xa5; LIST_LIMIT];
+    assert_eq!(calls::publish(&MIXED, &table, &mut list), [0, posted.len() as u64]);
+    assert_eq!(list[..posted.len()], posted);
+    assert_eq!(calls::read(&MIXED, &table, 1, 3), [0, 1, 0xffff_fffe]);
+    assert_eq!(calls::read(&MIXED, &table, 2, 3), [0, 1, 0xffff_fffe]);
+}
+
+/// FLOAT and BOOL are as wide from old devices as from new ones.
+#[test]
+fn ints_among_other_kinds() {
+    let short = [0xf0, 0xff, 0x00, 0x00, 0x20, 0x40, 1, 0x00, 0x80];
+    let long = [0xf0, 0xff, 0xff, 0xff, 0x00, 0x00, 0x20, 0x40, 1, 0x00, 0x80, 0xff, 0xff];
+    let mut hub = Hub::of_years(&[OLD, NEW]);
+    assert_eq!(hub.receive(0, &data(15, &long)), Err(17));
+    assert_eq!(hub.receive(1, &data(15, &short)), Err(17));
+    assert_eq!(hub.receive(0, &data(15, &short)), Ok(19));
+    assert_eq!(hub.receive(1, &data(15, &long)), Ok(23));
+    for socket in [0, 1] {
+        let held = [0, 1, 2, 3].map(|index| hub.read(socket, index).unwrap());
+        let float = Value::Float(0x4020_0000);
+        assert_eq!(held, [Value::Int(-16), float, Value::Flag(true), Value::Int(-32768)]);
+        // Without an INT there is one layout.
+        assert_eq!(hub.receive(socket, &data(6, &[0, 0, 0, 0, 0])), Ok(15));
+        assert_eq!(hub.read(socket, 1), Some(Value::Float(0)));
+        assert_eq!(hub.read(socket, 3), Some(Value::Int(-32768)));
+    }
+}
+
+/// The values' length is asked for the map that came: bytes that are right for one map and
+/// width are refused for another, also where both ask for as many.
+#[test]
+fn lengths_that_fit_another_map() {
+    let mut hub = Hub::of_years(&[OLD, NEW]);
+    let four = [0x01, 0x80, 0xff, 0x7f];
+    assert_eq!(hub.receive(0, &data(1, &four)), Err(17));
+    assert_eq!(hub.receive(1, &data(9, &four)), Err(17));
+    assert_eq!(hub.receive(0, &data(9, &four)), Ok(14));
+    assert_eq!(hub.receive(1, &data(1, &four)), Ok(14));
+    assert_eq!(hub.read(0, 0), Some(Value::Int(-32767)));
+    assert_eq!(hub.read(0, 3), Some(Value::Int(32767)));
+    assert_eq!(hub.read(1, 0), Some(Value::Int(0x7fff_8001)));
+    assert_eq!(hub.read(1, 3), None);
+    // 8 bytes are an INT and a FLOAT from a new device, with one more INT from an old one.
+    assert_eq!(hub.receive(0, &data(3, &[0; 8])), Err(17));
+    assert_eq!(hub.receive(1, &data(11, &[0; 8])), Err(17));
+    assert_eq!(hub.receive(0, &data(11, &[0; 8])), Ok(18));
+    assert_eq!(hub.receive(1, &data(3, &[0; 8])), Ok(18));
+}
+
+/// 16 before 17 before 18, whatever the width.
+#[test]
+fn order_for_both_widths() {
+    let mut hub = Hub::of_years(&[OLD, NEW]);
+    for (socket, own, other) in [(0, 2, 4), (1, 4, 2)] {
+        let values = |width: usize, flag: u8| [&vec![0; width][..], &[flag]].concat();
+        // Parameter 4 is not there; the values are of either length, the flag is none.
+        assert_eq!(hub.receive(socket, &data(21, &values(own, 2))), Err(16));
+        assert_eq!(hub.receive(socket, &data(21, &values(other, 2))), Err(16));
+        assert_eq!(hub.receive(socket, &data(5, &values(other, 2))), Err(17));
+        assert_eq!(hub.receive(socket, &data(5, &values(own + 1, 2))), Err(17));
+        assert_eq!(hub.receive(socket, &data(5, &values(own - 1, 2))), Err(17));
+        assert_eq!(hub.receive(socket, &data(5, &values(own, 2))), Err(18));
+        assert_eq!(hub.receive(socket, &data(5, &values(own, 1))), Ok(11 + own));
+    }
+}
+
+/// An ACK of another year empties the row and changes the widths behind it, for its own
+/// device alone.
+#[test]
+fn second_ack_with_another_year() {
+    let mut hub = Hub::of_years(&[OLD, OLD]);
+    let (short, long) = (data(1, &[0xfd, 0xff]), data(1, &[0xfd, 0xff, 0xff, 0xff]));
+    hub.receive(0, &short).unwrap();
+    hub.receive(1, &short).unwrap();
+    for (year, taken, refused) in [(NEW, &long, &short), (OLD, &short, &long), (255, &long, &short)]
+    {
+        assert_eq!(hub.receive(0, &ack_of_year(9, year, 0)), Ok(16));
+        assert_eq!(hub.table.slots[0], Slot::new(0, 9, year, [1, 2, 3, 4, 5, 6, 7, 0]));
+        assert_eq!(hub.receive(0, refused), Err(17));
+        assert_eq!(hub.receive(0, taken), Ok(taken.len()));
+        assert_eq!(hub.read(0, 0), Some(Value::Int(-3)));
+        assert_eq!(hub.receive(1, &long), Err(17));
+        assert_eq!(hub.receive(1, &short), Ok(12));
+    }
+    // A refused ACK changes no width.
+    assert_eq!(hub.receive(0, &ack_of_year(8, OLD, 0)), Err(12));
+    assert_eq!(hub.receive(0, &ack_of_year(9, OLD, 1)), Err(14));
+    assert_eq!(hub.receive(0, &short), Err(17));
+    assert_eq!(hub.receive(0, &long), Ok(14));
+    // Nor does one that leaves the width as it is.
+    assert_eq!(hub.receive(1, &ack_of_year(9, 0, 1)), Ok(16));
+    assert_eq!(hub.receive(1, &long), Err(17));
+    assert_eq!(hub.receive(1, &short), Ok(12));
+}
+
+/// A table may hold for an old device an INT that two bytes do not: it is read, posted and
+/// left as it is until its own parameter is sent.
+#[test]
+fn long_ints_held_for_old_devices() {
+    let mut hub = Hub::of_years(&[OLD]);
+    (hub.table.slots[0].present[0], hub.table.slots[0].bits[0]) = (true, 0x8123_4567);
+    assert_eq!(hub.receive(0, &data(8, &[0xff, 0xff])), Ok(12));
+    assert_eq!(hub.read(0, 0), Some(Value::Int(0x8123_4567_u32 as i32)));
+    let expected = image(&[List(vec![
+        Int(0),
+        Int(9),
+        Blob(vec![1, 2, 3, 4, 5, 6, 7, 0]),
+        List(vec![Int(0), Int(0x8123_4567)]),
+        List(vec![Int(3), Int(0xffff_ffff)]),
+    ])]);
+    assert_eq!(hub.published(), expected);
+    assert_eq!(hub.receive(0, &data(1, &[0x67, 0x45])), Ok(12));
+    assert_eq!(hub.read(0, 0), Some(Value::Int(0x4567)));
+    assert_eq!(hub.detach(0), Ok(()));
+}
+
 #[test]
 fn logs_change_nothing() {
     let mut hub = Hub::new();
@@ -248,6 +457,9 @@ fn lawful_tables() {
     };
     assert!(lawful(|_| {}));
     assert!(lawful(|table| table.slots[1].present[0] = true));
+    // The device of year 0 may hold an INT that two bytes do not.
+    assert!(lawful(|table| (table.slots[1].present[0], table.slots[1].bits[0]) = (true, 0x8000)));
+    assert!(lawful(|table| (table.slots[1].present[0], table.slots[1].bits[0]) = (true, 1 << 31)));
     assert!(lawful(|table| (table.slots[1].present[2], table.slots[1].bits[2]) = (true, 1)));
     assert!(!lawful(|table| (table.slots[1].present[2], table.slots[1].bits[2]) = (true, 2)));
     assert!(!lawful(|table| table.slots[1].present[1] = true));

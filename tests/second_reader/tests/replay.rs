@@ -1,8 +1,12 @@
 //! What the replay program prints.
 
-use second_reader::generate::replay as generate;
+use second_reader::generate::{packet as generate_packet, replay as generate};
+use second_reader::packet::DEVICE_DATA;
 use second_reader::random::Random;
-use second_reader::replay::replay_output;
+use second_reader::replay::{replay_output, replay_watched};
+use second_reader::widths::{Shown, Widths};
+use std::collections::BTreeMap;
+use std::path::{Path, PathBuf};
 
 const CATALOGUE: [u8; 10] = [8, 0, 0x01, 0x07, 0x03, 0x03, 0x00, 0x04, 0x0d, 0x06];
 const ACK_RECORD: [u8; 20] = [
@@ -24,6 +28,13 @@ fn loading(slot: &[u8]) -> Vec<u8> {
     record.extend(slot);
     record.resize(689, 0);
     record
+}
+
+/// A record with data that the bench case's device or one like it sends.
+fn data_record(map: u8, values: &[u8]) -> Vec<u8> {
+    let message = generate_packet::message_of(DEVICE_DATA, &[&[map, 0, 0, 0], values].concat());
+    let packet = generate_packet::packet_of(&message);
+    [&[1, 3, packet.len() as u8, 0], &packet[..]].concat()
 }
 
 #[test]
@@ -73,17 +84,87 @@ fn lines_of_each_record() {
 
 #[test]
 fn values_by_kind() {
-    // A data packet with a negative INT, a signalling NaN and a false flag.
-    let message = [4, 13, 7, 0, 0, 0, 0xfe, 0xff, 0xff, 0xff, 0x01, 0x00, 0x80, 0xff, 0];
-    let packet = {
-        let mut sealed = message.to_vec();
-        sealed.push(message.iter().fold(0, |sum, byte| sum ^ byte));
-        second_reader::generate::packet::packet_of(&sealed)
-    };
-    let mut record = vec![1, 3, packet.len() as u8, 0];
-    record.extend(packet);
+    // A negative INT, a signalling NaN and a false flag.
+    let record = data_record(7, &[0xfe, 0xff, 0xff, 0xff, 0x01, 0x00, 0x80, 0xff, 0]);
     let printed = output(&[&ACK_RECORD, &record, &[4, 3, 0], &[4, 3, 1], &[4, 3, 2]]);
     assert_eq!(printed, "took 16\ntook 19\nint -2\nfloat ff800001\nflag 0\n");
+}
+
+/// An old device's INTs, then those of the same one when it has come with year 6.
+#[test]
+fn short_ints() {
+    let old = [1, 3, 7, 5, 1, 2, 3, 4, 5, 6, 7, 8];
+    let (short, long) = (data_record(1, &[0xff, 0xff]), data_record(1, &[0xff; 4]));
+    let lowest = data_record(5, &[0x00, 0x80, 1]);
+    let printed = output(&[
+        &loading(&old),
+        &long,
+        &short,
+        &[4, 3, 0],
+        &lowest,
+        &[4, 3, 0],
+        &[4, 3, 2],
+        &ACK_RECORD,
+        &lowest,
+        &short,
+        &[4, 3, 0],
+        &long,
+        &[4, 3, 0],
+    ]);
+    let of_old = "loaded\nrefused 17\ntook 12\nint -1\ntook 13\nint -32768\nflag 1\n";
+    let of_new = "took 16\nrefused 17\nrefused 17\nabsent\ntook 14\nint -1\n";
+    assert_eq!(printed, format!("{of_old}{of_new}"));
+}
+
+/// Every year's line for two bytes and for four.
+#[test]
+fn every_year() {
+    let printed = replay_output(&generate::years());
+    let lines: Vec<&str> = printed.lines().collect();
+    let of_years: Vec<&[&str]> = lines.chunks(7).collect();
+    assert_eq!(of_years.len(), 257);
+    for (at, lines) in of_years.into_iter().enumerate() {
+        let [ack, short, after_short, _, long, after_long, _] = lines else { panic!("{at}") };
+        let short_year = at < 6 || at == 256;
+        assert_eq!(*ack, "took 16");
+        let expected = if short_year {
+            ["took 12", "int -2", "refused 17", "int -2"]
+        } else {
+            ["refused 17", "absent", "took 14", "int 131069"]
+        };
+        assert_eq!([*short, *after_short, *long, *after_long], expected, "{at}");
+    }
+}
+
+/// The number of an error that a step says its record is refused with.
+fn refusal(step: &str) -> Option<u64> {
+    step.split_once(": ")?.1.split_once(',')?.0.parse().ok()
+}
+
+/// The expected output of each capture in examples/ is what is printed here, a line for
+/// each step, and where the step says so a refusal with that number.
+#[test]
+fn captures() {
+    let folder = Path::new(env!("CARGO_MANIFEST_DIR")).join("../../examples");
+    let mut paths: Vec<PathBuf> =
+        folder.read_dir().unwrap().map(|entry| entry.unwrap().path()).collect();
+    paths.retain(|path| path.extension().is_some_and(|extension| extension == "capture"));
+    assert!(!paths.is_empty());
+    for path in paths {
+        let name = path.display();
+        let printed = replay_output(&std::fs::read(&path).unwrap());
+        assert!(
+            printed == std::fs::read_to_string(path.with_extension("expected")).unwrap(),
+            "{name}"
+        );
+        let steps = std::fs::read_to_string(path.with_extension("steps")).unwrap();
+        assert_eq!(printed.lines().count(), steps.lines().count(), "{name}");
+        for (step, line) in steps.lines().zip(printed.lines()) {
+            if let Some(number) = refusal(step) {
+                assert_eq!(line, format!("refused {number}"), "{name}: {step}");
+            }
+        }
+    }
 }
 
 #[test]
@@ -116,13 +197,20 @@ fn bad_records() {
     assert_eq!(replay_output(&[0; 65_536]), "bad record 1\n");
 }
 
-/// Scripts reach every answer of the hub.
+/// Scripts reach every answer of the hub, and show all about the width of INTs.
 #[test]
 fn scripts_reach_every_answer() {
     let mut random = Random::new(12);
-    let mut met = std::collections::BTreeMap::new();
+    let mut met = BTreeMap::new();
     for _ in 0..1_500 {
-        for line in replay_output(&generate::any(&mut random)).lines() {
+        let mut widths = Widths::default();
+        let printed =
+            replay_watched(&generate::any(&mut random), |catalogue, table, socket, packet| {
+                for shown in widths.shown(catalogue, table, socket, packet) {
+                    *met.entry(format!("shown {}", shown.number())).or_insert(0) += 1;
+                }
+            });
+        for line in printed.lines() {
             let mut words = line.split(' ');
             let word = words.next().unwrap();
             let key = if word == "refused" { line.to_string() } else { word.to_string() };
@@ -131,7 +219,9 @@ fn scripts_reach_every_answer() {
     }
     let refusals = (1..=19).map(|number| format!("refused {number}"));
     let words = ["took", "left", "posted", "int", "float", "flag", "absent", "loaded", "table"];
-    for key in refusals.chain(words.map(String::from)).chain([String::from("bad")]) {
+    let shown = Shown::NUMBERS.iter().map(|number| format!("shown {number}"));
+    let words = words.into_iter().chain(["bad"]).map(String::from);
+    for key in refusals.chain(words).chain(shown) {
         assert!(met.get(&key).is_some_and(|&times| times >= 20), "{key}: {met:?}");
     }
 }

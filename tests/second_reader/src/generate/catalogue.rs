@@ -11,11 +11,15 @@ struct Content {
     parameters: Vec<u8>,
 }
 
+/// What the parameters' kinds are taken from: all kinds alike, mostly INTs, or INTs alone.
+const KINDS: [&[u8]; 4] = [&[0, 1, 2], &[0, 1, 2], &[0, 0, 0, 0, 1, 2], &[0]];
+
 impl Content {
     /// As many random parameters as the types have.
     fn of_types(random: &mut Random, types: Vec<(u8, u8)>) -> Content {
         let sum: usize = types.iter().map(|&(_, count)| usize::from(count)).sum();
-        let parameters = (0..sum).map(|_| parameter(random)).collect();
+        let kinds = random.pick(&KINDS);
+        let parameters = (0..sum).map(|_| parameter(random, kinds)).collect();
         Content { types, parameters }
     }
 
@@ -28,10 +32,9 @@ impl Content {
     }
 }
 
-/// A parameter's byte: any kind, more often readable than not.
-fn parameter(random: &mut Random) -> u8 {
-    let kind = random.below(3) as u8;
-    kind + 4 * u8::from(!random.once_in(4)) + 8 * u8::from(random.once_in(2))
+/// A parameter's byte: one of these kinds, more often readable than not.
+fn parameter(random: &mut Random, kinds: &[u8]) -> u8 {
+    random.pick(kinds) + 4 * u8::from(!random.once_in(4)) + 8 * u8::from(random.once_in(2))
 }
 
 /// So many types with rising numbers.

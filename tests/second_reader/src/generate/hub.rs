@@ -7,6 +7,7 @@ use crate::list::LIST_LIMIT;
 use crate::packet::{ACK, DEVICE_DATA, DEVICE_WRITE, LOG, PING};
 use crate::random::Random;
 use crate::table::{Slot, Table, PRESENCE_AT, SLOTS, SLOT_BYTES, TABLE_BYTES};
+use crate::widths::other_width;
 
 /// One call on a table; a list area is given by its length.
 #[derive(Clone, Debug)]
@@ -60,53 +61,72 @@ fn ack(random: &mut Random, catalogue: &[u8], table: &Table) -> Vec<u8> {
     let parsed = Catalogue::parse(catalogue);
     let known = parsed.map_or(7, |parsed| table::device_type(random, &parsed));
     let device_type = if random.once_in(10) { random.byte() } else { known };
-    let mut payload = vec![device_type, random.byte()];
+    let mut payload = vec![device_type, table::year(random)];
     let seen = table.slots[random.below(SLOTS)].uid;
     payload.extend(if random.once_in(6) { seen } else { table::uid(random) });
     packet_bytes(ACK, &payload)
 }
 
-/// DEVICE_DATA for the device in this slot: some of its readable parameters, with a
-/// fault at times.
-fn data(random: &mut Random, catalogue: &[u8], slot: Option<&Slot>) -> Vec<u8> {
-    let mut map: u32 = 0;
-    let mut values = Vec::new();
-    let mut flags = Vec::new();
-    let parsed = Catalogue::parse(catalogue).ok();
-    let device = parsed.and_then(|parsed| parsed.device(slot?.device_type));
-    let share = random.pick(&[1, 1, 2, 5]);
-    for index in 0..PARAMETER_LIMIT {
-        let kind = device.and_then(|device| device.readable(index));
-        match kind {
-            Some(kind) if random.once_in(share) => {
-                map |= 1 << index;
-                let bits = table::value(random, kind);
-                if kind == ValueKind::Bool {
-                    flags.push(values.len());
-                }
-                values.extend(&bits.to_le_bytes()[..kind.width()]);
+/// The map of a data packet and the bytes of its values, and where among them flags stand.
+#[derive(Default)]
+struct Data {
+    map: u32,
+    values: Vec<u8>,
+    flags: Vec<usize>,
+}
+
+impl Data {
+    fn put(&mut self, index: usize, kind: ValueKind, bits: u32, year: u8) {
+        if kind == ValueKind::Bool {
+            self.flags.push(self.values.len());
+        }
+        self.map |= 1 << index;
+        self.values.extend(&bits.to_le_bytes()[..kind.width(year)]);
+    }
+
+    /// Spoils one thing at times.
+    fn spoil(&mut self, random: &mut Random) {
+        match random.below(16) {
+            0 => self.map ^= 1 << random.below(PARAMETER_LIMIT),
+            1 => self.values.push(random.byte()),
+            2 => drop(self.values.pop()),
+            3 if !self.flags.is_empty() => {
+                self.values[random.pick(&self.flags)] = random.pick(&[2, 255]);
+            }
+            4 => {
+                self.map = 0;
+                self.values.truncate(random.below(3));
             }
             _ => {}
         }
     }
-    match random.below(16) {
-        0 => map ^= 1 << random.below(PARAMETER_LIMIT),
-        1 => values.push(random.byte()),
-        2 => {
-            values.pop();
-        }
-        3 if !flags.is_empty() => values[random.pick(&flags)] = random.pick(&[2, 255]),
-        4 => {
-            map = 0;
-            values.truncate(random.below(3));
-        }
-        _ => {}
+
+    /// At most 32 values of 4 bytes and one more byte: 133 bytes, which a packet can
+    /// hold, but not of this type.
+    fn packet(&self) -> Vec<u8> {
+        packet_bytes(DEVICE_DATA, &[&self.map.to_le_bytes(), &self.values[..]].concat())
     }
-    let mut payload = Vec::from(map.to_le_bytes());
-    payload.extend(values);
-    // At most 32 values of 4 bytes and one more byte: 133 bytes, which a packet can
-    // hold, but not of this type.
-    packet_bytes(DEVICE_DATA, &payload)
+}
+
+/// DEVICE_DATA for the device in this slot: some of its readable parameters, at times with
+/// INTs of the other width or with a fault.
+fn data(random: &mut Random, catalogue: &[u8], slot: Option<&Slot>) -> Vec<u8> {
+    let mut data = Data::default();
+    let parsed = Catalogue::parse(catalogue).ok();
+    let device = parsed.and_then(|parsed| parsed.device(slot?.device_type));
+    let own_year = slot.map_or(0, |slot| slot.year);
+    let year = if random.once_in(6) { other_width(own_year) } else { own_year };
+    let share = random.pick(&[1, 1, 2, 5]);
+    for index in 0..PARAMETER_LIMIT {
+        match device.and_then(|device| device.readable(index)) {
+            Some(kind) if random.once_in(share) => {
+                data.put(index, kind, table::value(random, kind), year);
+            }
+            _ => {}
+        }
+    }
+    data.spoil(random);
+    data.packet()
 }
 
 /// A packet for a socket, and what follows it at times.

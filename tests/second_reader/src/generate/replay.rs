@@ -4,7 +4,7 @@
 use super::{catalogue, hub, packet};
 use crate::catalogue::{Catalogue, PARAMETER_LIMIT};
 use crate::hub::{detach, receive};
-use crate::packet::PING;
+use crate::packet::{ACK, DEVICE_DATA, PING};
 use crate::random::Random;
 use crate::replay::{
     DETACH, LOAD_TABLE, PRINT_TABLE, PUBLISH, READ_PARAMETER, RECEIVE, REPLAY_LIMIT,
@@ -134,6 +134,23 @@ fn script(random: &mut Random, catalogue: Vec<u8>, records: usize) -> Script {
     }
     script.bytes.extend([PUBLISH, PRINT_TABLE]);
     script
+}
+
+/// A device that comes with every year in turn and with the first again; each time it sends
+/// an INT in two bytes and in four, and what is held is read and posted.
+pub fn years() -> Vec<u8> {
+    const SOCKET: u8 = 3;
+    // Type 7 has one parameter, a readable INT.
+    let mut script = Script::new(vec![1, 7, 1, 1, 0, 4]);
+    for year in (0..=u8::MAX).chain([0]) {
+        script.receive(SOCKET, &packet_bytes(ACK, &[7, year, 1, 2, 3, 4, 5, 6, 7, 8]));
+        for value in [&[0xfe, 0xff][..], &[0xfd, 0xff, 0x01, 0x00]] {
+            let payload = [&[1, 0, 0, 0], value].concat();
+            script.receive(SOCKET, &packet_bytes(DEVICE_DATA, &payload));
+            script.bytes.extend([READ_PARAMETER, SOCKET, 0, PUBLISH]);
+        }
+    }
+    script.bytes
 }
 
 /// An input with a legal catalogue and no bad record.

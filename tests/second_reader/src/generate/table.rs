@@ -1,6 +1,6 @@
 //! Tables, lawful and spoiled in one way.
 
-use crate::catalogue::{Catalogue, ValueKind, PARAMETER_LIMIT};
+use crate::catalogue::{Catalogue, ValueKind, LONG_INT_YEAR, PARAMETER_LIMIT};
 use crate::random::Random;
 use crate::table::{Slot, Table, SLOTS, SOCKETS, UID_BYTES};
 
@@ -25,13 +25,43 @@ const SINGLES: [u32; 16] = [
     0xffff_ffff,
 ];
 
+/// INTs at the edges of one and two bytes, with sign and without.
+pub const INTS: [u32; 12] = [
+    0,
+    0x7f,
+    0x80,
+    0xff,
+    0x100,
+    0x7fff,
+    0x8000,
+    0xffff,
+    0x1_0000,
+    0xffff_7fff,
+    0xffff_8000,
+    0xffff_ffff,
+];
+
+/// The years up to just behind the first one with long INTs, and the last.
+pub const YEARS: [u8; 9] =
+    [0, 1, 2, 3, 4, LONG_INT_YEAR - 1, LONG_INT_YEAR, LONG_INT_YEAR + 1, u8::MAX];
+
 /// The bits of a value of this kind.
 pub fn value(random: &mut Random, kind: ValueKind) -> u32 {
     match kind {
+        ValueKind::Int if random.once_in(2) => random.pick(&INTS),
         ValueKind::Int => random.word(),
         ValueKind::Float if random.once_in(2) => random.pick(&SINGLES),
         ValueKind::Float => random.next() as u32,
         ValueKind::Bool => random.below(2) as u32,
+    }
+}
+
+/// A telling year, at times any.
+pub fn year(random: &mut Random) -> u8 {
+    if random.once_in(4) {
+        random.byte()
+    } else {
+        random.pick(&YEARS)
     }
 }
 
@@ -59,7 +89,7 @@ pub fn device_type(random: &mut Random, catalogue: &Catalogue) -> u8 {
 /// A slot for this socket, with some values of its type's readable parameters.
 fn taken_slot(random: &mut Random, catalogue: &Catalogue, socket: u8) -> Slot {
     let device_type = device_type(random, catalogue);
-    let mut slot = Slot::new(socket, device_type, random.byte(), uid(random));
+    let mut slot = Slot::new(socket, device_type, year(random), uid(random));
     let Some(device) = catalogue.device(device_type) else { return slot };
     let all = random.once_in(3);
     for index in 0..PARAMETER_LIMIT {
@@ -114,6 +144,6 @@ pub fn spoil(random: &mut Random, table: &mut Table) {
             slot.present[index] = true;
             slot.bits[index] = random.pick(&[0, 1, 2]);
         }
-        _ => slot.year = random.byte(),
+        _ => slot.year = year(random),
     }
 }

@@ -10,7 +10,7 @@ use Rattle.wire.proofs.Chains.{every-more, every-stop}
 use Rattle.wire.specs.Every.{every}
 use Rattle.slot.specs.Slot.{paramCount}
 use Rattle.slot.specs.Row.{slotOf}
-use Rattle.parameters.specs.Data.{mapBytes, allFlags, flagIf, named, offsetOf, valueIn}
+use Rattle.parameters.specs.Data.{mapBytes, longWidth, allFlags, flagIf, named, offsetOf, valueIn}
 use Rattle.parameters.proofs.ByBytes.{span-by, flag-by}
 use Rattle.parameters.proofs.Rests.{bit-below, flags-rest}
 use Rattle.parameters.proofs.Steps.{offset-more, rest-more, rest-none}
@@ -18,12 +18,12 @@ use Rattle.parameters.proofs.data.are_flags.Statement.{statement}
 use Rattle.parameters.proofs.data.are_flags.Tie as tie
 
 abbrev Inv-loop : tie.InvT-loop
-Inv-loop c row map payload bytes rest₀ at₀ p₀ rest at p =
-    (p ≤ paramCount) × (rest ≡ map / 2 ^ p) × (at ≡ offsetOf c (slotOf row) map p) × (at ≤ mapBytes + 4 * p)
+Inv-loop c row year map payload bytes rest₀ at₀ p₀ rest at p =
+    (p ≤ paramCount) × (rest ≡ map / 2 ^ p) × (at ≡ offsetOf c (slotOf row) map p) × (at ≤ mapBytes + longWidth * p)
     × (every p (λ q. flagIf c (slotOf row) q (named map q) (valueIn c (slotOf row) map payload q)) ≡ true)
 
 abbrev μ-loop : tie.MeasureT-loop
-μ-loop c row map payload bytes rest₀ at₀ p₀ rest at p = rest
+μ-loop c row year map payload bytes rest₀ at₀ p₀ rest at p = rest
 
 loop-holds : tie.Need-loop-holds Inv-loop μ-loop
 unfolding every offsetOf
@@ -47,8 +47,8 @@ loop-again c =
     let start = c .before .before .before .before .before .before .before .before in
     let s = slotOf (start .args .row .now) in
     let below = bit-below (start .args .map) (omega arith) (l .inv .0) (l .inv .1) (c .before .before .before .loop-test .taken) in
-    let span = span-by s (start .pre) (l .p) (omega arith) (eqb (l .rest % 2) 1) in
-    let test = flag-by s (start .pre) (l .p) (omega arith) (eqb (l .rest % 2) 1) (start .args .payload .now) (l .at) in (
+    let span = span-by s (start .pre .1) (l .p) (omega arith) (start .pre .0) (eqb (l .rest % 2) 1) in
+    let test = flag-by s (start .pre .1) (l .p) (omega arith) (start .pre .0) (eqb (l .rest % 2) 1) (start .args .payload .now) (l .at) in (
       omega arith,
       rw (rest-more, ← l .inv .1),
       rw (offset-more, ← l .inv .1, ← span, ← c .span-if .ensures .0, ← l .inv .2),
@@ -64,7 +64,7 @@ returns c =
     let start = c .before .before .before .before .before .before .before in
     let s = slotOf (start .args .row .now) in
     let below = bit-below (start .args .map) (omega arith) (l .inv .0) (l .inv .1) (c .before .before .loop-test .taken) in
-    let test = flag-by s (start .pre) (l .p) (omega arith) (eqb (l .rest % 2) 1) (start .args .payload .now) (l .at) in
+    let test = flag-by s (start .pre .1) (l .p) (omega arith) (start .pre .0) (eqb (l .rest % 2) 1) (start .args .payload .now) (l .at) in
     every-stop paramCount (l .p) _ below (rw (← l .inv .1, ← l .inv .2) (sym (c .before .is-flag-if .ensures ∙ test) ∙ c .if1 .left))
 
 returns-2 : tie.Need-returns-2 Inv-loop μ-loop

@@ -1,5 +1,5 @@
 -- `parameters::data::change_row` meets its contract: judged first, then stored.
-use mathlib.Core.Path.{sym, ap, _∙_}
+use mathlib.Core.Path.{refl, sym, ap, _∙_}
 use native.Mathlib.Omega.{arith}
 use borrow.Author.Needs.{needs}
 use borrow.Author.Tests.{not-true, not-false}
@@ -13,26 +13,34 @@ returns c =
     let a = c .before .before .before .before .before .before .args in
     changed-no-row (a .c .now) (a .row .now) (a .payload .now) (sym (c .before .is-row .ensures) ∙ not-true _ (c .if1 .taken))
 
-slice-read-find-device : tie.Need-slice-read-find-device
-slice-read-find-device c =
+slice-read-year : tie.Need-slice-read-year
+slice-read-year c =
     let row = c .before .before .before .before .before .before .before .args .row .now in
     omega (arith, row-length row (sym (c .before .before .is-row .ensures) ∙ not-false _ (c .before .if1 .left)))
 
+slice-read-find-device : tie.Need-slice-read-find-device
+slice-read-find-device c =
+    let tested = c .before .before in
+    let row = tested .before .before .before .before .before .before .args .row .now in
+    omega (arith, row-length row (sym (tested .before .is-row .ensures) ∙ not-false _ (tested .if1 .left)))
+
 judge-requires : tie.Need-judge-requires
-judge-requires c κs = rw (c .before .before .find-device .ensures) at (c .before .parameter-bytes .ensures)
+judge-requires c κs = (refl, rw (c .before .before .find-device .ensures) at (c .before .parameter-bytes .ensures))
 
 store-requires : tie.Need-store-requires
 store-requires c κs =
-    let found = c .before .before .before .before .before .before in (
+    let found = c .before .before .before .before .before .before in
+    let tested = found .before .before .before .before in (
+      refl,
       rw (found .before .find-device .ensures) at (found .parameter-bytes .ensures),
-      sym (found .before .before .before .before .is-row .ensures) ∙ not-false _ (found .before .before .before .if1 .left),
+      sym (tested .before .is-row .ensures) ∙ not-false _ (tested .if1 .left),
     )
 
 returns-2 : tie.Need-returns-2
 returns-2 c =
     let told = c .before .before .before .before .before in
     let judge = told .before .before in
-    let tested = judge .before .before .before .before .before in
+    let tested = judge .before .before .before .before .before .before in
     let a = tested .before .before .before .before .before .before .args in
     let is-row = sym (tested .before .is-row .ensures) ∙ not-false _ (tested .if1 .left) in
     let verdict = sym (judge .judge .ensures) ∙ ap verdictOf (told .enum-told .given .1) in
@@ -43,7 +51,7 @@ returns-3 : tie.Need-returns-3
 returns-3 c =
     let told = c .before in
     let judge = told .before .before in
-    let tested = judge .before .before .before .before .before in
+    let tested = judge .before .before .before .before .before .before in
     let a = tested .before .before .before .before .before .before .args in
     let is-row = sym (tested .before .is-row .ensures) ∙ not-false _ (tested .if1 .left) in
     let verdict = sym (judge .judge .ensures) ∙ ap verdictOf (told .a .given .1) in
@@ -56,6 +64,7 @@ change-row-spec =
     (λ c κs. search needs)
     (λ c. search needs)
     returns
+    slice-read-year
     slice-read-find-device
     (λ c κs. search needs)
     (λ c κs. search needs)

@@ -7,7 +7,7 @@ use lib.Dec.{eqb}
 use borrow.Author.Needs.{needs}
 use Rattle.slot.specs.Slot.{paramCount}
 use Rattle.slot.specs.Row.{slotOf}
-use Rattle.parameters.specs.Data.{mapBytes, offsetOf, sizeOf}
+use Rattle.parameters.specs.Data.{mapBytes, longWidth, offsetOf, sizeOf}
 use Rattle.parameters.proofs.ByBytes.{span-by}
 use Rattle.parameters.proofs.Rests.{bit-below, offset-rest}
 use Rattle.parameters.proofs.Steps.{offset-more, rest-more, rest-none}
@@ -15,11 +15,11 @@ use Rattle.parameters.proofs.data.size_of.Statement.{statement}
 use Rattle.parameters.proofs.data.size_of.Tie as tie
 
 abbrev Inv-loop : tie.InvT-loop
-Inv-loop c row map bytes rest₀ at₀ p₀ rest at p =
-    (p ≤ paramCount) × (rest ≡ map / 2 ^ p) × (at ≡ offsetOf c (slotOf row) map p) × (at ≤ mapBytes + 4 * p)
+Inv-loop c row year map bytes rest₀ at₀ p₀ rest at p =
+    (p ≤ paramCount) × (rest ≡ map / 2 ^ p) × (at ≡ offsetOf c (slotOf row) map p) × (at ≤ mapBytes + longWidth * p)
 
 abbrev μ-loop : tie.MeasureT-loop
-μ-loop c row map bytes rest₀ at₀ p₀ rest at p = rest
+μ-loop c row year map bytes rest₀ at₀ p₀ rest at p = rest
 
 loop-holds : tie.Need-loop-holds Inv-loop μ-loop
 unfolding offsetOf
@@ -36,7 +36,7 @@ loop-again c =
     let l = c .before .before .loop in
     let start = c .before .before .before .before .before in
     let below = bit-below (start .args .map) (omega arith) (l .inv .0) (l .inv .1) (c .before .loop-test .taken) in
-    let span = span-by (slotOf (start .args .row .now)) (start .pre) (l .p) (omega arith) (eqb (l .rest % 2) 1) in (
+    let span = span-by (slotOf (start .args .row .now)) (start .pre .1) (l .p) (omega arith) (start .pre .0) (eqb (l .rest % 2) 1) in (
       omega arith,
       rw (rest-more, ← l .inv .1),
       rw (offset-more, ← l .inv .1, ← span, ← c .span-if .ensures .0, ← l .inv .2),

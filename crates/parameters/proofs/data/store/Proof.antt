@@ -9,27 +9,25 @@ use borrow.Author.Needs.{needs}
 use borrow.Author.Tests.{eq-eqb, ne-eqb}
 use Rattle.wire.proofs.ByteLists.{all-bytes}
 use Rattle.catalogue.specs.declared.Parameter.{Parameter}
-use Rattle.catalogue.proofs.Bytes.{kind-is}
 use Rattle.slot.specs.Slot.{paramCount}
 use Rattle.slot.specs.Row.{slotOf, slotBytes}
 use Rattle.slot.proofs.Rows.{row-back, row-fits}
-use Rattle.parameters.specs.Data.{mapBytes, named, offsetOf, storedTo}
+use Rattle.parameters.specs.Data.{mapBytes, longWidth, width, widthOf, named, offsetOf, storedTo}
+use Rattle.parameters.proofs.ByBytes.{width-by}
 use Rattle.parameters.proofs.Rests.{bit-below, stored-rest}
 use Rattle.parameters.proofs.Rows.{StoredTo, row-length, stored-length, store-value, store-none}
 use Rattle.parameters.proofs.Steps.{rest-more, rest-none, offset-named, offset-unnamed}
+use Rattle.parameters.proofs.Widths.{width-is}
 use Rattle.parameters.proofs.data.store.Statement.{statement}
 use Rattle.parameters.proofs.data.store.Tie as tie
 
-kind-of : {q r : Parameter} → q ≡ r → q .kind ≡ r .kind
-kind-of e = ap (λ (q : Parameter). q .kind) e
-
 abbrev Inv-loop : tie.InvT-loop
-Inv-loop c row₀ map payload bytes rest₀ at₀ p₀ row rest at p =
-    (p ≤ paramCount) × (rest ≡ map / 2 ^ p) × (at ≡ offsetOf c (slotOf row₀) map p) × (at ≤ mapBytes + 4 * p)
+Inv-loop c row₀ year map payload bytes rest₀ at₀ p₀ row rest at p =
+    (p ≤ paramCount) × (rest ≡ map / 2 ^ p) × (at ≡ offsetOf c (slotOf row₀) map p) × (at ≤ mapBytes + longWidth * p)
     × StoredTo c (slotOf row₀) map payload row p
 
 abbrev μ-loop : tie.MeasureT-loop
-μ-loop c row₀ map payload bytes rest₀ at₀ p₀ row rest at p = rest
+μ-loop c row₀ year map payload bytes rest₀ at₀ p₀ row rest at p = rest
 
 loop-holds : tie.Need-loop-holds Inv-loop μ-loop
 unfolding offsetOf storedTo
@@ -41,7 +39,7 @@ loop-holds c =
       rest-none _,
       refl,
       omega arith,
-      record { bytes = sym (row-back row all (start .pre .1)); fits = row-fits row all },
+      record { bytes = sym (row-back row all (start .pre .2)); fits = row-fits row all },
     )
 
 array-read-describe : tie.Need-array-read-describe Inv-loop μ-loop
@@ -49,6 +47,9 @@ array-read-describe c =
     let l = c .before .before .loop in
     let start = c .before .before .before .before .before .before in
     bit-below (start .args .map) (omega arith) (l .inv .0) (l .inv .1) (c .before .loop-test .taken)
+
+value-at-requires : tie.Need-value-at-requires Inv-loop μ-loop
+value-at-requires c κs = rw (c .width-of .ensures .0) (width-is _ _)
 
 loop-again : tie.Need-loop-again Inv-loop μ-loop
 loop-again c =
@@ -61,15 +62,17 @@ loop-again c =
     let no : (l .rest % 2 ≡ 1 → ⊥) → named (a .map) (l .p) ≡ false = λ e. rw (← l .inv .1) (ne-eqb _ _ e) in
     let offset-is = offset-named (a .c .now) s (a .map) (l .p) in
     let same-offset = offset-unnamed (a .c .now) s (a .map) (l .p) in
-    let kind = kind-is (start .pre .0) (l .p) (omega arith) in
+    let by-byte = width-by s (start .pre .1) (l .p) (omega arith) (start .pre .0) in
     ⊎-elim
-    (λ w. (
+    (λ w.
+    let is-width : w .2 .result ≡ widthOf (a .c .now) s (l .p) =
+    w .2 .ensures .0 ∙ ap (λ (q : Parameter). width (a .year) (q .kind)) (w .1 .ensures) ∙ by-byte in (
       omega arith,
       rw (rest-more, ← l .inv .1),
-      rw (offset-is (yes (w .0 .taken)), ← l .inv .2, kind, ← kind-of (w .1 .ensures), ← w .7 .ensures .0) (w .9),
-      omega (arith, w .9, w .7 .ensures .1, l .inv .3),
-      store-value (a .c .now) s (a .map) (a .payload .now) (l .inv .4) (w .2 .result) (yes (w .0 .taken)) below
-          (rw (← l .inv .2, kind, ← kind-of (w .1 .ensures)) (w .2 .ensures)) (omega arith) (w .8 ∙ w .4 .ensures),
+      rw (offset-is (yes (w .0 .taken)), ← l .inv .2, ← is-width) (w .9),
+      omega (arith, w .9, w .2 .ensures .1, l .inv .3),
+      store-value (a .c .now) s (a .map) (a .payload .now) (l .inv .4) (w .3 .result) (yes (w .0 .taken)) below
+          (rw (← l .inv .2, ← is-width) (w .3 .ensures)) (omega arith) (w .8 ∙ w .5 .ensures),
     ))
     (λ w. (
       omega arith,
@@ -84,7 +87,7 @@ same-length : tie.Need-same-length Inv-loop μ-loop
 same-length c =
     let start = c .before .before .before .before .before in
     let l = c .before .loop in
-    stored-length _ _ _ _ (l .inv .4) ∙ sym (row-length (start .args .row .now) (start .pre .1))
+    stored-length _ _ _ _ (l .inv .4) ∙ sym (row-length (start .args .row .now) (start .pre .2))
 
 returns : tie.Need-returns Inv-loop μ-loop
 returns c =
@@ -102,7 +105,7 @@ store-spec =
     array-read-describe
     (λ c κs. search needs)
     (λ c κs. search needs)
-    (λ c κs. search needs)
+    value-at-requires
     (λ c κs. search needs)
     (λ c. search needs)
     (λ c. search needs)

@@ -1,27 +1,27 @@
--- `parameters::data::value_at` meets its contract, by the kind.
-use mathlib.Core.Path.{sym, _∙_}
+-- `parameters::data::value_at` meets its contract, by the width.
+use mathlib.Core.Path.{_≡_, sym, ap, _∙_}
+use mathlib.Core.Logic.{⊎-elim}
+use native.Mathlib.Omega.{arith}
 use borrow.Author.Needs.{needs}
-use borrow.Author.Tests.{eq-eqb, ne-eqb}
-use Rattle.parameters.specs.Data.{width}
+use Rattle.value.specs.Meaning.{extended}
 use Rattle.parameters.proofs.Steps.{number-1}
+use Rattle.parameters.proofs.Widths.{held-plain, held-short}
 use Rattle.parameters.proofs.data.value_at.Statement.{statement}
 use Rattle.parameters.proofs.data.value_at.Tie as tie
 
 returns : tie.Need-returns
-unfolding width
-returns c = rw (eq-eqb _ _ (c .before .if1 .taken)) (c .u32-at .ensures)
+returns c = rw (c .before .if1 .taken) (c .u32-at .ensures ∙ sym (held-plain _ _ (λ e. omega arith)))
 
 returns-2 : tie.Need-returns-2
-unfolding width
-returns-2 c = rw (ne-eqb _ _ (c .before .before .if1 .left), eq-eqb _ _ (c .before .if2 .taken)) (c .u32-at2 .ensures)
+returns-2 c =
+    rw (c .before .before .if2 .taken) (c .extend .ensures ∙ ap extended (c .before .u16-at .ensures) ∙ sym (held-short _))
 
 returns-3 : tie.Need-returns-3
-unfolding width
 returns-3 c =
-    rw (
-      ne-eqb _ _ (c .before .before .if1 .left),
-      ne-eqb _ _ (c .before .if2 .left),
-    ) (c .byte-at .ensures ∙ sym (number-1 (c .before .before .before .before .args .payload .now) (c .before .before .before .before .args .at)))
+    let start = c .before .before .before .before in
+    let one : start .args .w ≡ 1 =
+    ⊎-elim (λ e. e) (⊎-elim (λ e. absurd (c .before .if2 .left e)) (λ e. absurd (c .before .before .if1 .left e))) (start .pre) in
+    rw one (c .byte-at .ensures ∙ sym (number-1 (start .args .payload .now) (start .args .at)) ∙ sym (held-plain _ _ (λ e. omega arith)))
 
 pub value-at-spec : {M : Type 1} → statement M
 value-at-spec =
@@ -29,6 +29,7 @@ value-at-spec =
     (tie.spec
     (λ c κs. search needs)
     returns
+    (λ c κs. search needs)
     (λ c κs. search needs)
     returns-2
     (λ c κs. search needs)

@@ -4,13 +4,15 @@
 use crate::buffers::{exact, patterned, put, Outcome, DEFINITION};
 use crate::report::{count_answer, hex, Answers, Difference, Section, READER};
 use archive::{hub_detach, hub_publish, hub_read, hub_receive};
-use second_reader::catalogue::{Catalogue, PARAMETER_LIMIT};
+use second_reader::catalogue::{Catalogue, LONG_INT_YEAR, PARAMETER_LIMIT};
 use second_reader::generate::hub::{call, catalogue, table_bytes, Call, WIDE};
+use second_reader::generate::table::{INTS, YEARS};
 use second_reader::generate::{catalogue as generate_catalogue, list, packet};
 use second_reader::list::LIST_LIMIT;
 use second_reader::packet::{ACK, DEVICE_DATA, LOG, PING};
 use second_reader::random::Random;
 use second_reader::table::{Slot, Table, SLOTS, SLOT_BYTES, SOCKETS, TABLE_BYTES};
+use second_reader::widths::{Shown, Widths};
 use second_reader::{calls, definition, Error};
 
 pub const SECTION: Section = Section {
@@ -24,6 +26,7 @@ pub const SECTION: Section = Section {
         Answers { of: "hub_detach", numbers: &[0, 9, 10, 11, 15] },
         Answers { of: "hub_publish", numbers: &[0, 9, 11, 20] },
         Answers { of: "hub_read", numbers: &[0, 9, 10, 11, 15] },
+        Answers { of: "hub_receive's widths", numbers: Shown::NUMBERS },
         // Absent, int, float and flag.
         Answers { of: "hub_read's kind", numbers: &[0, 1, 2, 3] },
     ],
@@ -137,39 +140,58 @@ fn told(catalogue: &[u8], table: &[u8], call: &Call, pattern: u64) -> Vec<(&'sta
     case
 }
 
-/// One call; the table becomes what the call leaves.
-fn check(
-    catalogue: &[u8],
-    table: &mut Vec<u8>,
-    call: &Call,
-    lent: Lent,
-    pattern: u64,
-) -> Result<(), Difference> {
-    let room = if let Call::Publish { room } = call { *room } else { 0 };
-    let buffers = || [lent.buffer(table, pattern), patterned(room, !pattern)];
-    let names = ["table's buffer", "list"];
-    let case = || told(catalogue, table, call, pattern);
-    let mut found = Outcome::of(buffers(), |[table, list]| {
-        by_product(catalogue, call, lent.table(table), list)
-    });
-    let reader =
-        Outcome::of(buffers(), |[table, list]| by_reader(catalogue, call, lent.table(table), list));
-    reader.owed(READER, &found, names, case)?;
-    if matches!(call, Call::Publish { .. }) {
-        let defined = Outcome::of(buffers(), |[table, list]| {
-            let [error, written] = calls::sized(published(catalogue, lent.table(table), list));
-            [error, written, 0]
+/// Calls on one table, which is kept as bytes: each sees what the calls before left.
+struct Series<'a> {
+    catalogue: &'a [u8],
+    table: Vec<u8>,
+    widths: Widths,
+}
+
+impl Series<'_> {
+    fn new<'a>(catalogue: &'a [u8], table: &[u8]) -> Series<'a> {
+        Series { catalogue, table: table.to_vec(), widths: Widths::default() }
+    }
+
+    /// One call; the table becomes what the call leaves.
+    fn check(&mut self, call: &Call, lent: Lent, pattern: u64) -> Result<(), Difference> {
+        let Series { catalogue, table, .. } = self;
+        let room = if let Call::Publish { room } = call { *room } else { 0 };
+        let buffers = || [lent.buffer(table, pattern), patterned(room, !pattern)];
+        let names = ["table's buffer", "list"];
+        let case = || told(catalogue, table, call, pattern);
+        let mut found = Outcome::of(buffers(), |[table, list]| {
+            by_product(catalogue, call, lent.table(table), list)
         });
-        defined.owed(DEFINITION, &found, names, case)?;
+        let reader = Outcome::of(buffers(), |[table, list]| {
+            by_reader(catalogue, call, lent.table(table), list)
+        });
+        reader.owed(READER, &found, names, case)?;
+        if matches!(call, Call::Publish { .. }) {
+            let defined = Outcome::of(buffers(), |[table, list]| {
+                let [error, written] = calls::sized(published(catalogue, lent.table(table), list));
+                [error, written, 0]
+            });
+            defined.owed(DEFINITION, &found, names, case)?;
+        }
+        self.count(call, reader.answer);
+        self.table.clear();
+        self.table.extend(&*lent.table(&mut found.buffers[0]));
+        Ok(())
     }
-    let [error, kind, _] = reader.answer;
-    count_answer(name(call), error);
-    if matches!(call, Call::Read { .. }) && error == 0 {
-        count_answer("hub_read's kind", kind);
+
+    /// Counts an answer, and what else the call shows on the table as it was.
+    fn count(&mut self, call: &Call, [error, kind, _]: Numbers) {
+        count_answer(name(call), error);
+        match (call, Table::from_bytes(&self.table)) {
+            (Call::Read { .. }, _) if error == 0 => count_answer("hub_read's kind", kind),
+            (Call::Receive { socket, packet }, Some(table)) => {
+                for shown in self.widths.shown(self.catalogue, &table, *socket, packet) {
+                    count_answer("hub_receive's widths", shown.number());
+                }
+            }
+            _ => {}
+        }
     }
-    table.clear();
-    table.extend(&*lent.table(&mut found.buffers[0]));
-    Ok(())
 }
 
 fn random_case(random: &mut Random) -> Result<u64, Difference> {
@@ -177,19 +199,19 @@ fn random_case(random: &mut Random) -> Result<u64, Difference> {
     let parsed = Catalogue::parse(&catalogue).ok();
     let lent = random.pick(&[Lent::Guarded, Lent::Whole]);
     let mut there = Table::default();
-    let mut table = Vec::from(there.to_bytes());
+    let mut series = Series::new(&catalogue, &there.to_bytes());
     // Under a bad catalogue every answer is 11.
     let most = if parsed.is_some() { random.pick(&[1, 5, 20, 40]) } else { 2 };
     for _ in 0..most {
         let lawful = parsed.is_some_and(|parsed| there.lawful(&parsed));
         if random.once_in(if lawful { 16 } else { 3 }) {
-            table = table_bytes(random, &catalogue, &there);
+            series.table = table_bytes(random, &catalogue, &there);
         } else if !lawful && random.once_in(3) {
-            table = vec![0; TABLE_BYTES];
+            series.table = vec![0; TABLE_BYTES];
         }
-        there = Table::from_bytes(&table).unwrap_or_default();
+        there = Table::from_bytes(&series.table).unwrap_or_default();
         let call = call(random, &catalogue, &there);
-        check(&catalogue, &mut table, &call, lent, random.next())?;
+        series.check(&call, lent, random.next())?;
     }
     Ok(most)
 }
@@ -204,11 +226,13 @@ fn full_catalogue() -> Vec<u8> {
     [1, 9, 32, 32, 0].into_iter().chain(parameters).collect()
 }
 
-/// Devices of type 9 on sockets 1, 3, 5 and 7 that hold all their values.
+/// Devices of type 9 on sockets 1, 3, 5 and 7 that hold all their values. Those on 1 and 5
+/// send short INTs; they hold some that two bytes do not.
 fn full_table() -> Vec<u8> {
     let mut table = Table::default();
     for (at, slot) in table.slots.iter_mut().enumerate() {
-        *slot = Slot::new(2 * at as u8 + 1, 9, 6, [at as u8 + 1; 8]);
+        let year = [LONG_INT_YEAR - 1, LONG_INT_YEAR, 0, u8::MAX][at];
+        *slot = Slot::new(2 * at as u8 + 1, 9, year, [at as u8 + 1; 8]);
         slot.present = [true; PARAMETER_LIMIT];
         slot.bits = std::array::from_fn(|index| match index % KINDS.len() {
             2 => (index / 3 % 2) as u32,
@@ -222,8 +246,12 @@ fn packet_of(packet_type: u8, payload: &[u8]) -> Vec<u8> {
     packet::packet_of(&packet::message_of(packet_type, payload))
 }
 
+fn ack_of_year(device_type: u8, year: u8, uid: u8) -> Vec<u8> {
+    packet_of(ACK, &[device_type, year, uid, uid, uid, uid, uid, uid, uid, uid])
+}
+
 fn ack(device_type: u8, uid: u8) -> Vec<u8> {
-    packet_of(ACK, &[device_type, 6, uid, uid, uid, uid, uid, uid, uid, uid])
+    ack_of_year(device_type, LONG_INT_YEAR, uid)
 }
 
 fn data(map: u32, values: &[u8]) -> Vec<u8> {
@@ -246,13 +274,13 @@ fn each_alone(catalogue: &[u8], table: &[u8], calls: &[Call]) -> Result<u64, Dif
     let catalogue = exact(catalogue.to_vec());
     for (at, call) in calls.iter().enumerate() {
         let lent = if at % 2 == 0 { Lent::Guarded } else { Lent::Whole };
-        check(&catalogue, &mut table.to_vec(), call, lent, at as u64)?;
+        Series::new(&catalogue, table).check(call, lent, at as u64)?;
     }
     Ok(calls.len() as u64)
 }
 
 fn enumerated() -> Result<u64, Difference> {
-    Ok(catalogues()? + tables()? + numbers()? + packets()? + series()?)
+    Ok(catalogues()? + tables()? + numbers()? + packets()? + years()? + series()?)
 }
 
 /// Whether each catalogue is taken: those at the limits, and the bench cases' one cut at
@@ -350,7 +378,8 @@ fn packets() -> Result<u64, Difference> {
     for packet_type in 0..=6 {
         all.extend((0..=251).map(|length| packet_of(packet_type, &vec![0; length])));
     }
-    for whole in [ack(9, 77), data(7, &[1, 2, 3, 4, 5, 6, 7, 8, 1]), packet_of(PING, &[])] {
+    let (long, short) = (data(7, &[1, 2, 3, 4, 5, 6, 7, 8, 1]), data(7, &[1, 2, 3, 4, 5, 6, 1]));
+    for whole in [ack(9, 77), long, short, packet_of(PING, &[])] {
         all.extend((0..whole.len()).map(|length| whole[..length].to_vec()));
         for at in 0..whole.len() {
             for value in [0, 1, 2, 255, whole[at] ^ 1, whole[at] ^ 0x80] {
@@ -361,10 +390,11 @@ fn packets() -> Result<u64, Difference> {
         }
     }
     for index in 0..PARAMETER_LIMIT {
-        for length in 0..=6 {
+        for length in 0..=7 {
             for value in [0, 1, 2, 255] {
                 all.push(data(1 << index, &vec![value; length]));
-                all.push(data(1 << index | 1, &vec![value; length + 4]));
+                // With an INT of either width before it.
+                all.push(data(1 << index | 1, &vec![value; length + 2]));
             }
         }
     }
@@ -382,10 +412,53 @@ fn packets() -> Result<u64, Difference> {
     Ok(checks)
 }
 
+/// Every year in turn on one socket, then each of the telling years behind each other one.
+fn years() -> Result<u64, Difference> {
+    let catalogue = exact(full_catalogue());
+    let mut series = Series::new(&catalogue, &full_table());
+    let pairs =
+        YEARS.into_iter().flat_map(|first| YEARS.into_iter().flat_map(move |next| [first, next]));
+    let mut checks = 0;
+    for year in (0..=u8::MAX).chain(pairs) {
+        for call in of_year(year) {
+            series.check(&call, Lent::Guarded, checks)?;
+            checks += 1;
+        }
+    }
+    Ok(checks)
+}
+
+/// A device comes with this year and sends INTs in both widths: each telling one alone, two
+/// at once, and all its values; each is read, and all are posted.
+fn of_year(year: u8) -> Vec<Call> {
+    let socket = 3;
+    let receive = |packet| Call::Receive { socket, packet };
+    let mut calls = vec![receive(ack_of_year(9, year, 77))];
+    for width in [2, 4] {
+        for int in INTS {
+            calls.push(receive(data(1, &int.to_le_bytes()[..width])));
+            calls.push(Call::Read { socket, index: 0 });
+        }
+        // Parameters 0 and 3 are INTs: two short ones are as long as a long one.
+        calls.push(receive(data(9, &[0xfe, 0xff, 0xff, 0x7f, 0, 0, 1, 0x80][..2 * width])));
+        calls.push(Call::Read { socket, index: 3 });
+        calls.push(receive(all_values(width)));
+        calls.push(Call::Publish { room: LIST_LIMIT });
+    }
+    calls
+}
+
+/// Data of all parameters of type 9, with INTs of this width.
+fn all_values(width: usize) -> Vec<u8> {
+    let widths = [width, 4, 1];
+    let values = (0..PARAMETER_LIMIT).flat_map(|index| vec![1; widths[index % widths.len()]]);
+    data(u32::MAX, &Vec::from_iter(values))
+}
+
 /// Each socket seated, read, posted and left in turn, again and again on one table.
 fn series() -> Result<u64, Difference> {
     let catalogue = exact(BENCH.to_vec());
-    let mut table = vec![0; TABLE_BYTES];
+    let mut series = Series::new(&catalogue, &[0; TABLE_BYTES]);
     let mut checks = 0;
     for round in 0..40 {
         for socket in 0..=u64::from(SOCKETS) {
@@ -402,7 +475,7 @@ fn series() -> Result<u64, Difference> {
                 Call::Detach { socket: (socket + round as u64) % 11 },
             ];
             for call in &calls {
-                check(&catalogue, &mut table, call, Lent::Guarded, checks)?;
+                series.check(call, Lent::Guarded, checks)?;
                 checks += 1;
             }
         }

@@ -9,9 +9,10 @@ use second_reader::generate::{
 };
 use second_reader::list::{DEPTH_LIMIT, LIST_LIMIT};
 use second_reader::random::Random;
-use second_reader::replay::{replay_output, DETACH, PUBLISH, REPLAY_LIMIT};
+use second_reader::replay::{replay_watched, DETACH, PUBLISH, REPLAY_LIMIT};
 use second_reader::stream::{run_output, show_output, RUN_LIMIT};
 use second_reader::table::TABLE_BYTES;
+use second_reader::widths::{Shown, Widths};
 use std::io::Write;
 use std::path::PathBuf;
 use std::process::{Command, Output, Stdio};
@@ -33,10 +34,13 @@ pub const SHOW: Section = Section {
 pub const REPLAY: Section = Section {
     name: "replay",
     progress: 500,
-    answers: &[Answers {
-        of: "replay",
-        numbers: &[0, 1, 2, 3, 4, 5, 6, 7, 8, 9, 10, 11, 12, 13, 14, 15, 16, 17, 18, 19],
-    }],
+    answers: &[
+        Answers {
+            of: "replay",
+            numbers: &[0, 1, 2, 3, 4, 5, 6, 7, 8, 9, 10, 11, 12, 13, 14, 15, 16, 17, 18, 19],
+        },
+        Answers { of: "replay's widths", numbers: Shown::NUMBERS },
+    ],
     enumerated: replay_enumerated,
     random: replay_case,
 };
@@ -221,7 +225,12 @@ fn streams() -> Vec<Vec<u8>> {
 }
 
 fn check_replay(input: Vec<u8>) -> Result<u64, Difference> {
-    let expected = replay_output(&input);
+    let mut widths = Widths::default();
+    let expected = replay_watched(&input, |catalogue, table, socket, packet| {
+        for shown in widths.shown(catalogue, table, socket, packet) {
+            count_answer("replay's widths", shown.number());
+        }
+    });
     check("replay", input, &expected)
 }
 
@@ -229,7 +238,7 @@ fn replay_case(random: &mut Random) -> Result<u64, Difference> {
     check_replay(generate_replay::any(random))
 }
 
-/// Sizes around the limit, each record alone and cut short, and catalogues.
+/// Sizes around the limit, each record alone and cut short, every year, and catalogues.
 fn replay_enumerated() -> Result<u64, Difference> {
     const EMPTY: [u8; 5] = [3, 0, 0, 0, 0];
     let mut checks = check_replay(EMPTY.to_vec())?;
@@ -247,6 +256,7 @@ fn replay_enumerated() -> Result<u64, Difference> {
             checks += check_replay(input)?;
         }
     }
+    checks += check_replay(generate_replay::years())?;
     let mut random = Random::new(0);
     for _ in 0..SCRIPTS {
         checks += check_replay(generate_replay::any(&mut random))?;
