@@ -108,7 +108,7 @@ def bench():
     capture.look()
     for index, step in enumerate(["INT", "FLOAT, not readable", "BOOL"]):
         capture.read(3, index, f"parameter {index}, {step}")
-    capture.receive(3, bytes.fromhex("000402010201"), "PING, which is for devices")
+    capture.receive(3, bytes.fromhex("000402010201"), "19, PING, which is for devices")
     capture.receive(3, packet(LOG, b"hello"), "LOG")
     capture.look()
     capture.write()

@@ -35,50 +35,42 @@ ackC = 0x00 ∷ 0x0E ∷ 0x0E ∷ 0x02 ∷ 0x0A ∷ 0x07 ∷ 0x06 ∷ 0x01 ∷ 0
 abbrev pub dataC : List ℕ
 dataC = 0x00 ∷ 0x0D ∷ 0x04 ∷ 0x04 ∷ 0x09 ∷ 0x05 ∷ 0x01 ∷ 0x01 ∷ 0x02 ∷ 0x07 ∷ 0x01 ∷ 0x01 ∷ 0x03 ∷ 0x01 ∷ 0x0E ∷ []
 
--- the table after the ACK, and after both
+-- the table after the ACK
 abbrev pub attachedC : List ℕ
 attachedC = withSlot (emptyTable slotCount) 0 rowC
 
-abbrev pub filledC : List ℕ
-filledC =
+-- with a number in the INT, and true, of a device of some year
+abbrev holding : ℕ → ℕ → List ℕ
+holding year bits =
     withSlot (emptyTable slotCount) 0
     (record {
       taken = true;
       socket = 3;
       device = 7;
-      year = 6;
-      uid = 0x0807060504030201;
-      present = set (set (replicate paramCount false) 0 true) 2 true;
-      bits = set (set (replicate paramCount 0) 0 7) 2 1;
-    })
-
--- the ACK with year 5
-abbrev pub oldAck : List ℕ
-oldAck = 0x00 ∷ 0x0E ∷ 0x0E ∷ 0x02 ∷ 0x0A ∷ 0x07 ∷ 0x05 ∷ 0x01 ∷ 0x02 ∷ 0x03 ∷ 0x04 ∷ 0x05 ∷ 0x06 ∷ 0x07 ∷ 0x08 ∷ 0x02 ∷ []
-
--- DEVICE_DATA, map 5, -1 as two bytes and true
-abbrev pub oldData : List ℕ
-oldData = 0x00 ∷ 0x0B ∷ 0x04 ∷ 0x04 ∷ 0x07 ∷ 0x05 ∷ 0x01 ∷ 0x01 ∷ 0x05 ∷ 0xFF ∷ 0xFF ∷ 0x01 ∷ 0x07 ∷ []
-
-abbrev pub attachedOld : List ℕ
-attachedOld = withSlot (emptyTable slotCount) 0 oldRow
-
--- with a number in the INT, and true
-abbrev oldHolding : ℕ → List ℕ
-oldHolding bits =
-    withSlot (emptyTable slotCount) 0
-    (record {
-      taken = true;
-      socket = 3;
-      device = 7;
-      year = 5;
+      year = year;
       uid = 0x0807060504030201;
       present = set (set (replicate paramCount false) 0 true) 2 true;
       bits = set (set (replicate paramCount 0) 0 bits) 2 1;
     })
 
-abbrev pub filledOld : List ℕ
-filledOld = oldHolding 0xFFFF_FFFF
+-- the table after both
+abbrev pub filledC : List ℕ
+filledC = holding 6 7
+
+-- the ACK with year 5
+abbrev oldAck : List ℕ
+oldAck = 0x00 ∷ 0x0E ∷ 0x0E ∷ 0x02 ∷ 0x0A ∷ 0x07 ∷ 0x05 ∷ 0x01 ∷ 0x02 ∷ 0x03 ∷ 0x04 ∷ 0x05 ∷ 0x06 ∷ 0x07 ∷ 0x08 ∷ 0x02 ∷ []
+
+-- DEVICE_DATA, map 5, -1 as two bytes and true
+abbrev oldData : List ℕ
+oldData = 0x00 ∷ 0x0B ∷ 0x04 ∷ 0x04 ∷ 0x07 ∷ 0x05 ∷ 0x01 ∷ 0x01 ∷ 0x05 ∷ 0xFF ∷ 0xFF ∷ 0x01 ∷ 0x07 ∷ []
+
+-- the tables after these
+abbrev attachedOld : List ℕ
+attachedOld = withSlot (emptyTable slotCount) 0 oldRow
+
+abbrev filledOld : List ℕ
+filledOld = holding 5 0xFFFF_FFFF
 
 pub record BenchReceive : Type 0 where
   pub ack : receivedOf catalogueC (emptyTable slotCount) 3 ackC ≡ accepting attachedC 16
@@ -101,9 +93,9 @@ pub record BenchReceive : Type 0 where
       (value (int 3)
       (value (int 7) (value (blob (1 ∷ 2 ∷ 3 ∷ 4 ∷ 5 ∷ 6 ∷ 7 ∷ 8 ∷ [])) (list (pair 0 (int 0xFFFF_FFFF)) (list (pair 2 (int 1)) none)))))
       none
-  -- an INT beyond 16 bits that is held for an older device is lawful
-  pub old-wide : lawful slotCount socketCount catalogueC (oldHolding 0x1_0000) ≡ true
-  -- its bytes are those of the table whose list publish shows
+  -- an INT beyond 16 bits that is held for an old device is lawful
+  pub old-wide : lawful slotCount socketCount catalogueC (holding 5 0x1_0000) ≡ true
+  -- the bytes of filledC are those of the table whose list publish shows
   pub same-bytes : filledC ≡ tableC
 
 pub bench-receive : BenchReceive

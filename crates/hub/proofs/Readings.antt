@@ -33,6 +33,7 @@ use Rattle.publish.specs.Published.{elementOf, heldValue}
 use Rattle.publish.proofs.Values.{int-published}
 use Rattle.hub.specs.Receive.{accepted, receivedOf}
 use Rattle.hub.specs.Calls.{readOf}
+use Rattle.hub.proofs.PayloadBytes.{starts-bytes}
 use Rattle.hub.proofs.Keeps.{received-lawful}
 use Rattle.hub.proofs.Packets.{ack-slot, data-slot}
 
@@ -83,37 +84,41 @@ module _
           held (meant (parameterOf c (slotAt t i .device) p .kind) (valueIn c (slotAt t i) (mapOf payload) payload p))
       named-read l m = data-read ∙ named-reads c payload (slotAt t i) (slot-shaped t i) p l m
 
-      -- LAW: an INT that it names reads as the signed number of its two bytes where the device's year is below 6
-      pub old-int-read :
-          Bytes payload → p < paramCount → named (mapOf payload) p ≡ true → parameterOf c (slotAt t i .device) p .kind ≡ kindInt →
-          slotAt t i .year < longIntYear →
-          readOf c (receivedOf c t socket s .table) socket p ≡
-          held (whole (shortOf (numberAt shortWidth payload (offsetOf c (slotAt t i) (mapOf payload) p))))
-      old-int-read y l m k o = data-read ∙ old-int-reads c payload (slotAt t i) (slot-shaped t i) p y l m k o
+      -- an INT that it names
+      module _
+          (l : p < paramCount) (m : named (mapOf payload) p ≡ true) (k : parameterOf c (slotAt t i .device) p .kind ≡ kindInt)
+        where
+          payload-bytes : Bytes payload
+          payload-bytes = starts-bytes s DEVICE_DATA payload consumed w g
 
-      -- LAW: and is posted as that number
-      pub old-int-posted :
-          Bytes payload → p < paramCount → named (mapOf payload) p ≡ true → parameterOf c (slotAt t i .device) p .kind ≡ kindInt →
-          slotAt t i .year < longIntYear →
-          elementOf (heldValue c (slotAt (receivedOf c t socket s .table) i) p) ≡
-          int (intBits (shortOf (numberAt shortWidth payload (offsetOf c (slotAt t i) (mapOf payload) p))))
-      old-int-posted y l m k o =
-          let at = offsetOf c (slotAt t i) (mapOf payload) p in
-          let number = numberAt shortWidth payload at in
-          rw (
-            data-slot c t socket s a payload consumed n i b g w h e,
-            data-same-device c payload (slotAt t i) .device-same,
-            k,
-            old-int-bits c payload (slotAt t i) (slot-shaped t i) p l m k o,
-          ) (int-published (extended number) (extended-small number (number-small shortWidth payload at y)))
+          -- LAW: it reads as the signed number of its two bytes where the device's year is below 6
+          pub old-int-read :
+              slotAt t i .year < longIntYear →
+              readOf c (receivedOf c t socket s .table) socket p ≡
+              held (whole (shortOf (numberAt shortWidth payload (offsetOf c (slotAt t i) (mapOf payload) p))))
+          old-int-read y = data-read ∙ old-int-reads c payload (slotAt t i) (slot-shaped t i) p l m k payload-bytes y
 
-      -- LAW: it reads as that of its four where the year is not below 6
-      pub new-int-read :
-          p < paramCount → named (mapOf payload) p ≡ true → parameterOf c (slotAt t i .device) p .kind ≡ kindInt →
-          longIntYear ≤ slotAt t i .year →
-          readOf c (receivedOf c t socket s .table) socket p ≡
-          held (whole (intOf (numberAt longWidth payload (offsetOf c (slotAt t i) (mapOf payload) p))))
-      new-int-read l m k o = data-read ∙ new-int-reads c payload (slotAt t i) (slot-shaped t i) p l m k o
+          -- LAW: and is posted as that number
+          pub old-int-posted :
+              slotAt t i .year < longIntYear →
+              elementOf (heldValue c (slotAt (receivedOf c t socket s .table) i) p) ≡
+              int (intBits (shortOf (numberAt shortWidth payload (offsetOf c (slotAt t i) (mapOf payload) p))))
+          old-int-posted y =
+              let at = offsetOf c (slotAt t i) (mapOf payload) p in
+              let number = numberAt shortWidth payload at in
+              rw (
+                data-slot c t socket s a payload consumed n i b g w h e,
+                data-same-device c payload (slotAt t i) .device-same,
+                k,
+                old-int-bits c payload (slotAt t i) (slot-shaped t i) p l m k y,
+              ) (int-published (extended number) (extended-small number (number-small shortWidth payload at payload-bytes)))
+
+          -- LAW: it reads as that of its four where the year is not below 6
+          pub new-int-read :
+              longIntYear ≤ slotAt t i .year →
+              readOf c (receivedOf c t socket s .table) socket p ≡
+              held (whole (intOf (numberAt longWidth payload (offsetOf c (slotAt t i) (mapOf payload) p))))
+          new-int-read y = data-read ∙ new-int-reads c payload (slotAt t i) (slot-shaped t i) p l m k y
 
       -- LAW: any other parameter reads as before
       pub unnamed-read :

@@ -49,28 +49,28 @@ module _
     named-reads l n =
         rw (lt-ltb p paramCount l, present-as true l n, bits-as true l n, data-same-device c payload s .device-same)
 
-    -- LAW: of an INT from a device of a year below 6 the 32 bits of the signed number of its two bytes are held
-    pub old-int-bits :
-        p < paramCount → named (mapOf payload) p ≡ true → parameterOf c (s .device) p .kind ≡ kindInt → s .year < longIntYear →
-        bitsAt (stored c payload s) p ≡ extended (numberAt shortWidth payload (offsetOf c s (mapOf payload) p))
-    old-int-bits l n k y = bits-as true l n ∙ rw (k, width-old (s .year) y) (held-short _)
+    -- an INT that the map names
+    module _ (l : p < paramCount) (n : named (mapOf payload) p ≡ true) (k : parameterOf c (s .device) p .kind ≡ kindInt) where
+      -- LAW: from a device of a year below 6 the 32 bits of the signed number of its two bytes are held
+      pub old-int-bits :
+          s .year < longIntYear → bitsAt (stored c payload s) p ≡ extended (numberAt shortWidth payload (offsetOf c s (mapOf payload) p))
+      old-int-bits y = bits-as true l n ∙ rw (k, width-old (s .year) y) (held-short _)
 
-    -- LAW: so that it reads as that number
-    pub old-int-reads :
-        Bytes payload → p < paramCount → named (mapOf payload) p ≡ true → parameterOf c (s .device) p .kind ≡ kindInt → s .year < longIntYear →
-        contentOf c (stored c payload s) p ≡ held (whole (shortOf (numberAt shortWidth payload (offsetOf c s (mapOf payload) p))))
-    unfolding contentOf
-    old-int-reads b l n k y =
-        let at = offsetOf c s (mapOf payload) p in
-        rw (lt-ltb p paramCount l, present-as true l n, old-int-bits l n k y, data-same-device c payload s .device-same, k)
-        (ap (λ z. held (whole z)) (extended-says (numberAt shortWidth payload at) (number-small shortWidth payload at b)))
+      -- LAW: so that it reads as that number
+      pub old-int-reads :
+          Bytes payload → s .year < longIntYear →
+          contentOf c (stored c payload s) p ≡ held (whole (shortOf (numberAt shortWidth payload (offsetOf c s (mapOf payload) p))))
+      old-int-reads b y =
+          let at = offsetOf c s (mapOf payload) p in
+          let says = extended-says (numberAt shortWidth payload at) (number-small shortWidth payload at b) in
+          named-reads l n ∙ rw (k, width-old (s .year) y) (ap (λ z. held (whole z)) (ap intOf (held-short _) ∙ says))
 
-    -- LAW: and one from any other device as that of its four
-    pub new-int-reads :
-        p < paramCount → named (mapOf payload) p ≡ true → parameterOf c (s .device) p .kind ≡ kindInt → longIntYear ≤ s .year →
-        contentOf c (stored c payload s) p ≡ held (whole (intOf (numberAt longWidth payload (offsetOf c s (mapOf payload) p))))
-    new-int-reads l n k y =
-        named-reads l n ∙ rw (k, width-new (s .year) y) (ap (λ b. held (whole (intOf b))) (held-plain longWidth _ (λ e. omega arith)))
+      -- LAW: and from any other device as that of its four bytes
+      pub new-int-reads :
+          longIntYear ≤ s .year →
+          contentOf c (stored c payload s) p ≡ held (whole (intOf (numberAt longWidth payload (offsetOf c s (mapOf payload) p))))
+      new-int-reads y =
+          named-reads l n ∙ rw (k, width-new (s .year) y) (ap (λ b. held (whole (intOf b))) (held-plain longWidth _ (λ e. omega arith)))
 
     -- LAW: any other parameter reads as before
     pub unnamed-reads : named (mapOf payload) p ≡ false → contentOf c (stored c payload s) p ≡ contentOf c s p

@@ -8,6 +8,7 @@ pub mod Ranges
 pub mod Rows
 pub mod Judged
 pub mod Payloads
+pub mod Layouts
 pub mod Laws
 pub mod Contents
 pub mod Bench

@@ -9,11 +9,11 @@ use Rattle.slot.specs.declared.Slot.{Slot}
 use Rattle.slot.proofs.Filling.{number-small}
 use Rattle.slot.proofs.Values.{value-fits}
 use Rattle.parameters.specs.Data.{mapOf, named, width, offsetOf, valueAt, valueIn, storeIf, storedTo, stored}
-use Rattle.parameters.proofs.Widths.{width-is, held-small}
+use Rattle.parameters.proofs.Widths.{width-most, held-small}
 
 value-small : (year kind : ℕ) (payload : List ℕ) (at : ℕ) → Bytes payload → valueAt (width year kind) payload at < 256 ^ 4
 value-small year kind payload at h =
-    held-small (width year kind) (numberAt (width year kind) payload at) (number-small (width year kind) payload at h) (width-is year kind)
+    held-small (width year kind) (numberAt (width year kind) payload at) (number-small (width year kind) payload at h) (width-most year kind)
 
 store-fits : (b : Bool) (s : Slot) (p bits : ℕ) → Fits s → bits < 256 ^ 4 → Fits (storeIf b s p bits)
 store-fits true s p bits f h = value-fits s p bits f h

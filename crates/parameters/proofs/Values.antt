@@ -1,6 +1,6 @@
 -- After a DEVICE_DATA packet each parameter is the packet's where the map names it and else the old one; the rest of the row stays.
 use Prim.Native.Nat.{ℕ, zero, suc, _<_}
-use mathlib.Core.Path.{_≡_, refl}
+use mathlib.Core.Path.{_≡_, refl, _∙_}
 use mathlib.Core.Bool.{Bool, true, false, cond}
 use mathlib.Core.List.{List}
 use native.Mathlib.Omega.{arith}
@@ -17,6 +17,19 @@ pub record SameDevice (s t : Slot) : Type 0 where
   pub device-same : t .device ≡ s .device
   pub year-same : t .year ≡ s .year
   pub uid-same : t .uid ≡ s .uid
+
+pub same-self : (s : Slot) → SameDevice s s
+same-self s = record { taken-same = refl; socket-same = refl; device-same = refl; year-same = refl; uid-same = refl }
+
+pub same-on : {s t u : Slot} → SameDevice s t → SameDevice t u → SameDevice s u
+same-on h k =
+    record {
+      taken-same = k .taken-same ∙ h .taken-same;
+      socket-same = k .socket-same ∙ h .socket-same;
+      device-same = k .device-same ∙ h .device-same;
+      year-same = k .year-same ∙ h .year-same;
+      uid-same = k .uid-same ∙ h .uid-same;
+    }
 
 store-device : (b : Bool) (s t : Slot) (p bits : ℕ) → SameDevice s t → SameDevice s (storeIf b t p bits)
 store-device true s t p bits h =
@@ -43,7 +56,7 @@ module _ (c : List ℕ) (s : Slot) (map : ℕ) (payload : List ℕ) where
 
   device-kept : (n : ℕ) → SameDevice s (storedTo c s map payload n)
   unfolding storedTo
-  device-kept zero = record { taken-same = refl; socket-same = refl; device-same = refl; year-same = refl; uid-same = refl }
+  device-kept zero = same-self s
   device-kept (suc n) = store-device (named map n) s (row n) n (valueIn c s map payload n) (device-kept n)
 
   present-step : (p : ℕ) → row (suc p) .present ≡ cond (named map p) (set (row p .present) p true) (row p .present)

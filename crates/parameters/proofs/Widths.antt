@@ -2,38 +2,33 @@
 use Prim.Native.Nat.{ℕ, _+_, _*_, _/_, _≤_, _<_, _^_}
 use mathlib.Core.Path.{_≡_, refl, sym, ap, _∙_}
 use mathlib.Core.Bool.{Bool, true, false, cond}
-use mathlib.Core.Logic.{_⊎_, inl, inr, ⊎-elim, _≢_}
+use mathlib.Core.Logic.{inl, inr, ⊎-elim, _≢_}
+use native.Mathlib.Nat.{pow-le-pow-right}
 use native.Mathlib.Omega.{arith}
 use lib.Dec.{ltb, eqb}
 use lib.IntN.{ℤ}
-use borrow.Author.Tests.{eqb-true, ne-eqb, lt-ltb, le-ltb}
+use borrow.Author.Tests.{eqb-true, ne-eqb, lt-ltb, le-ltb, ltb-true}
 use mir.Syntax.{w16}
 use mir.Val.{SFits, ofZ}
 use mir.Facts.{sfits-toZ, fits-ofZ, toZ-ofZ}
 use Rattle.wire.specs.Number.{leBytes}
 use Rattle.wire.proofs.Numbers.{bytes-joined}
-use Rattle.catalogue.specs.Format.{kindInt, kindFloat}
-use Rattle.value.specs.Meaning.{intOf, intBits, extended}
-use Rattle.value.proofs.Shorts.{extended-small, extended-low, extended-says}
-use Rattle.parameters.specs.Data.{longIntYear, shortWidth, longWidth, width, heldBits}
+use Rattle.catalogue.specs.Format.{kindInt, kindFloat, kindBool}
+use Rattle.value.specs.Meaning.{shortOf, intBits, extended}
+use Rattle.value.proofs.Shorts.{extended-small, extended-low}
+use Rattle.parameters.specs.Data.{longIntYear, shortWidth, longWidth, flagWidth, width, heldBits}
+use Rattle.parameters.specs.Given.{IsWidth}
 
--- a value has one, two or four bytes
-abbrev pub IsWidth : ℕ → Type 0
-IsWidth bytes = (bytes ≡ 1) ⊎ ((bytes ≡ shortWidth) ⊎ (bytes ≡ longWidth))
-
--- LAW: whatever the year and the kind
+-- LAW: a value has one, two or four bytes
 pub width-is : (year kind : ℕ) → IsWidth (width year kind)
 unfolding width
 width-is year kind = go (eqb kind kindInt) (ltb year longIntYear) (eqb kind kindFloat)
   where
-    go : (int old float : Bool) → IsWidth (cond int (cond old shortWidth longWidth) (cond float longWidth 1))
+    go : (int old float : Bool) → IsWidth (cond int (cond old shortWidth longWidth) (cond float longWidth flagWidth))
     go true true float = inr (inl refl)
     go true false float = inr (inr refl)
     go false old true = inr (inr refl)
     go false old false = inl refl
-
-most : {bytes : ℕ} → IsWidth bytes → bytes ≤ longWidth
-most h = ⊎-elim (λ e. omega (arith, e)) (⊎-elim (λ e. omega (arith, e)) (λ e. omega (arith, e))) h
 
 -- LAW: an INT has two bytes in a packet of a device of a year below 6
 pub width-old : (year : ℕ) → year < longIntYear → width year kindInt ≡ shortWidth
@@ -45,43 +40,64 @@ pub width-new : (year : ℕ) → longIntYear ≤ year → width year kindInt ≡
 unfolding width
 width-new year l = rw (le-ltb year longIntYear l)
 
+-- LAW: a FLOAT has four in every year
+pub width-float : (year : ℕ) → width year kindFloat ≡ longWidth
+unfolding width
+width-float year = refl
+
+-- LAW: and a BOOL one
+pub width-bool : (year : ℕ) → width year kindBool ≡ flagWidth
+unfolding width
+width-bool year = refl
+
+-- LAW: two bytes are the INT of a device of a year below 6
+pub short-int : (year kind : ℕ) → width year kind ≡ shortWidth → (kind ≡ kindInt) × (year < longIntYear)
+unfolding width
+short-int year kind = go (eqb kind kindInt) (ltb year longIntYear) (eqb kind kindFloat) refl refl
+  where
+    go :
+        (int old float : Bool) → eqb kind kindInt ≡ int → ltb year longIntYear ≡ old →
+        cond int (cond old shortWidth longWidth) (cond float longWidth flagWidth) ≡ shortWidth → (kind ≡ kindInt) × (year < longIntYear)
+    go true true float i o e = (eqb-true kind kindInt i, ltb-true year longIntYear o)
+    go true false float i o e = absurd (omega (arith, e))
+    go false old true i o e = absurd (omega (arith, e))
+    go false old false i o e = absurd (omega (arith, e))
+
 -- LAW: a value has at most 4 bytes
 pub width-most : (year kind : ℕ) → width year kind ≤ longWidth
-width-most year kind = most (width-is year kind)
+width-most year kind = ⊎-elim (λ e. omega (arith, e)) (⊎-elim (λ e. omega (arith, e)) (λ e. omega (arith, e))) (width-is year kind)
 
 -- all but two bytes are held as they are
-pub held-plain : (bytes number : ℕ) → bytes ≢ shortWidth → heldBits bytes number ≡ number
+pub held-plain : (w number : ℕ) → w ≢ shortWidth → heldBits w number ≡ number
 unfolding heldBits
-held-plain bytes number n = rw (ne-eqb bytes shortWidth n)
+held-plain w number n = rw (ne-eqb w shortWidth n)
 
 pub held-short : (number : ℕ) → heldBits shortWidth number ≡ extended number
 unfolding heldBits
 held-short number = refl
 
-module _ (bytes number : ℕ) (l : number < 256 ^ bytes) where
+module _ (w number : ℕ) (l : number < 256 ^ w) where
   -- by whether there are two bytes
-  by-width : (P : ℕ → Type 0) → P number → (bytes ≡ shortWidth → P (extended number)) → P (heldBits bytes number)
+  by-width : (P : ℕ → Type 0) → P number → (w ≡ shortWidth → P (extended number)) → P (heldBits w number)
   unfolding heldBits
-  by-width P plain short = go (eqb bytes shortWidth) refl
+  by-width P plain short = go (eqb w shortWidth) refl
     where
-      go : (b : Bool) → eqb bytes shortWidth ≡ b → P (cond b (extended number) number)
-      go true e = short (eqb-true bytes shortWidth e)
+      go : (b : Bool) → eqb w shortWidth ≡ b → P (cond b (extended number) number)
+      go true e = short (eqb-true w shortWidth e)
       go false e = plain
 
-  short-below : bytes ≡ shortWidth → number < 0x1_0000
+  short-below : w ≡ shortWidth → number < 0x1_0000
   short-below e = rw e at l
 
   -- LAW: what is held has 32 bits
-  pub held-small : IsWidth bytes → heldBits bytes number < 256 ^ 4
-  held-small w =
-      by-width (λ x. x < 256 ^ 4)
-      (⊎-elim (λ e. let k = rw e at l in omega (arith, k))
-      (⊎-elim (λ e. let k = rw e at l in omega (arith, k)) (λ e. let k = rw e at l in omega (arith, k))) w)
-      (λ e. extended-small number (short-below e))
+  pub held-small : w ≤ longWidth → heldBits w number < 256 ^ longWidth
+  held-small k =
+      let power : 256 ^ w ≤ 256 ^ longWidth = pow-le-pow-right (omega arith) k in
+      by-width (λ x. x < 256 ^ longWidth) (omega (arith, l, power)) (λ e. extended-small number (short-below e))
 
   -- LAW: its low bytes are the value's
-  pub held-bytes : leBytes bytes (heldBits bytes number) ≡ leBytes bytes number
-  held-bytes = by-width (λ x. leBytes bytes x ≡ leBytes bytes number) refl (λ e. rw e (low (short-below e)))
+  pub held-bytes : leBytes w (heldBits w number) ≡ leBytes w number
+  held-bytes = by-width (λ x. leBytes w x ≡ leBytes w number) refl (λ e. rw e (low (short-below e)))
     where
       low : number < 0x1_0000 → leBytes shortWidth (extended number) ≡ leBytes shortWidth number
       low k =
@@ -91,17 +107,16 @@ module _ (bytes number : ℕ) (l : number < 256 ^ bytes) where
 
 -- the value is what so many bytes are held as
 abbrev pub Carried : ℕ → ℕ → Type 0
-Carried bytes value = (number : ℕ) × (number < 256 ^ bytes) × (value ≡ heldBits bytes number)
+Carried w value = (number : ℕ) × (number < 256 ^ w) × (value ≡ heldBits w number)
 
 -- LAW: one byte and four bytes carry every number that they can spell
-pub carried-plain : (bytes value : ℕ) → bytes ≢ shortWidth → value < 256 ^ bytes → Carried bytes value
-carried-plain bytes value n l = (value, l, sym (held-plain bytes value n))
+pub carried-plain : (w value : ℕ) → w ≢ shortWidth → value < 256 ^ w → Carried w value
+carried-plain w value n l = (value, l, sym (held-plain w value n))
 
 -- LAW: two bytes carry the signed numbers of 16 bits
 pub carried-short : (z : ℤ) → SFits w16 z → Carried shortWidth (intBits z)
 carried-short z f = (ofZ w16 z, fits-ofZ f .fits, ap intBits (sym (toZ-ofZ f)) ∙ sym (held-short (ofZ w16 z)))
 
 -- LAW: and no others
-pub short-carries : (value : ℕ) → Carried shortWidth value → SFits w16 (intOf value)
-short-carries value (number, l, e) =
-    rw (e, held-short number, extended-says number l) (sfits-toZ {w = w16} (record { fits = l }))
+pub short-carries : (value : ℕ) → Carried shortWidth value → (z : ℤ) × SFits w16 z × (value ≡ intBits z)
+short-carries value (number, l, e) = (shortOf number, sfits-toZ {w = w16} (record { fits = l }), e ∙ held-short number)

@@ -40,18 +40,24 @@ named map p = eqb (bitOf map p) 1
 abbrev pub longIntYear : ℕ
 longIntYear = 6
 
--- the two widths of an INT; the longer one is also a FLOAT's
+-- "an INT as two bytes"
 abbrev pub shortWidth : ℕ
 shortWidth = 2
 
+-- "INT is 4 bytes ..; FLOAT is 4 bytes"
 abbrev pub longWidth : ℕ
 longWidth = 4
 
--- "INT is 4 bytes ..; FLOAT is 4 bytes ..; BOOL is one byte", and the INT of an older device two
-unfoldable pub width : ℕ → ℕ → ℕ
-width year kind = cond (eqb kind kindInt) (cond (ltb year longIntYear) shortWidth longWidth) (cond (eqb kind kindFloat) longWidth 1)
+-- "BOOL is one byte"
+abbrev pub flagWidth : ℕ
+flagWidth = 1
 
--- "Width goes by the seated year": how many bytes a value of parameter p has in a packet of this row's device
+-- how many bytes a value of this kind has in a packet of a device of this year
+unfoldable pub width : ℕ → ℕ → ℕ
+width year kind =
+    cond (eqb kind kindInt) (cond (ltb year longIntYear) shortWidth longWidth) (cond (eqb kind kindFloat) longWidth flagWidth)
+
+-- "Width goes by the seated year": that of parameter p in a packet of this row's device
 abbrev pub widthOf : List ℕ → Slot → ℕ → ℕ
 widthOf c s p = width (s .year) (parameterOf c (s .device) p .kind)
 
@@ -64,13 +70,13 @@ unfoldable pub offsetOf : List ℕ → Slot → ℕ → ℕ → ℕ
 offsetOf c s map zero = mapBytes
 offsetOf c s map (suc p) = offsetOf c s map p + spanIf c s p (named map p)
 
--- "the signed number is held": what the number of a value's bytes is held as; two bytes are an INT's
+-- "the signed number is held": what the number of a value's bytes is held as; two bytes are an INT's (`short-int`)
 unfoldable pub heldBits : ℕ → ℕ → ℕ
-heldBits bytes number = cond (eqb bytes shortWidth) (extended number) number
+heldBits w number = cond (eqb w shortWidth) (extended number) number
 
--- the value of so many bytes at an offset, "low byte first"
+-- the value of this width at an offset, "low byte first"
 abbrev pub valueAt : ℕ → List ℕ → ℕ → ℕ
-valueAt bytes payload at = heldBits bytes (numberAt bytes payload at)
+valueAt w payload at = heldBits w (numberAt w payload at)
 
 -- the value that a payload has for parameter p
 abbrev pub valueIn : List ℕ → Slot → ℕ → List ℕ → ℕ → ℕ

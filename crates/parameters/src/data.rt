@@ -5,15 +5,15 @@ use table::Answer;
 use table::Place;
 ghost use Prim.Native.Nat.{_≤_};
 ghost use mathlib.Core.Path.{_≡_};
-ghost use mathlib.Core.Logic.{_⊎_};
-ghost use mathlib.Core.Bool.{true, _&&_, _||_, not, cond};
+ghost use mathlib.Core.Bool.{true, _||_, not, cond};
 ghost use lib.Dec.{leb, eqb};
 ghost use Rattle.catalogue.specs.Format.{kindBool, described};
 ghost use Rattle.catalogue.specs.Lookup.{deviceOf, BytesIn};
 ghost use Rattle.slot.specs.Slot.{paramCount};
 ghost use Rattle.slot.specs.Row.{slotOf, slotBytes, isRow};
 ghost use Rattle.table.specs.Change.{verdictOf};
-ghost use Rattle.parameters.specs.Data.{shortWidth, longWidth, width, valueAt, allReadable, sizeOf, allFlags, judged, storedTo, changedRow, applied};
+ghost use Rattle.parameters.specs.Data.{longWidth, width, valueAt, allReadable, sizeOf, allFlags, judged, storedTo, changedRow, applied};
+ghost use Rattle.parameters.specs.Given.{Given, IsWidth};
 
 // The bytes before the first value: the map's.
 const MAP_BYTES: usize = 4;
@@ -21,12 +21,14 @@ const MAP_BYTES: usize = 4;
 // The first year whose devices send an INT as four bytes.
 const LONG_INT_YEAR: u8 = 6;
 
-// The bytes of an older device's INT, and those of every other number.
+// The widths that there are: an old device's INT, every other INT and a FLOAT, a BOOL.
 const SHORT: usize = 2;
 
 const LONG: usize = 4;
 
-// How many bytes a value of this kind has in a packet of a device of this year. All that follows goes by it.
+const FLAG: usize = 1;
+
+// How many bytes a value of this kind has in a packet of a device of this year. Lengths, offsets and values go by it.
 fn width_of(year: u8, kind: u8) -> usize
     ensures { λ r. ⌜ (r ≡ width year kind) × (r ≤ longWidth) ⌝ }
 {
@@ -39,12 +41,12 @@ fn width_of(year: u8, kind: u8) -> usize
     if kind == catalogue::FLOAT {
         return LONG;
     }
-    1
+    FLAG
 }
 
 // The value of this width at an offset, as it is held.
 fn value_at(w: usize, payload: &[u8], at: usize) -> u32
-    requires { ⌜ (w ≡ 1) ⊎ ((w ≡ shortWidth) ⊎ (w ≡ longWidth)) ⌝ }
+    requires { ⌜ IsWidth w ⌝ }
     ensures { λ r. ⌜ r ≡ valueAt w (now (payload .entry)) at ⌝ }
 {
     if w == LONG {
@@ -56,7 +58,7 @@ fn value_at(w: usize, payload: &[u8], at: usize) -> u32
     wire::byte_at(payload, at) as u32
 }
 
-// What follows for one parameter goes by its byte in the catalogue and its bit in the map.
+// Whether a parameter may be sent goes by its byte in the catalogue and its bit in the map.
 fn is_readable_if(b: u8, bit: u32) -> bool
     ensures { λ r. ⌜ r ≡ (not (eqb bit 1) || described b .readable) ⌝ }
 {
@@ -67,9 +69,9 @@ fn is_readable_if(b: u8, bit: u32) -> bool
     true
 }
 
-// 16: each parameter that the map names is readable. Here and below `bytes` are those of the device type; the contract alone
-// asks for the catalogue and the row. The loop ends when no set bit is left, as the others do, since most packets name few
-// parameters.
+// 16: each parameter that the map names is readable. Here and below `bytes` are those of the device type and `year` is the
+// row's; the contract alone asks for the catalogue and the row. Each loop ends when no set bit is left, since most packets name
+// few parameters.
 fn are_readable(c: &[u8], row: &[u8], bytes: [u8; MAX_PARAMETERS], map: u32) -> bool
     requires { ⌜ BytesIn (now c) (deviceOf (now c) (slotOf (now row) .device)) bytes ⌝ }
     ensures { λ r. ⌜ r ≡ allReadable (now (c .entry)) (slotOf (now (row .entry))) map ⌝ }
@@ -100,7 +102,7 @@ fn span_if(year: u8, b: u8, bit: u32) -> usize
 
 // 17: how many bytes a payload with this map has.
 fn size_of(c: &[u8], row: &[u8], year: u8, bytes: [u8; MAX_PARAMETERS], map: u32) -> usize
-    requires { ⌜ (year ≡ slotOf (now row) .year) × BytesIn (now c) (deviceOf (now c) (slotOf (now row) .device)) bytes ⌝ }
+    requires { ⌜ Given (now c) (slotOf (now row)) year bytes ⌝ }
     ensures { λ r. ⌜ r ≡ sizeOf (now (c .entry)) (slotOf (now (row .entry))) map ⌝ }
 {
     let mut rest = map;
@@ -114,15 +116,13 @@ fn size_of(c: &[u8], row: &[u8], year: u8, bytes: [u8; MAX_PARAMETERS], map: u32
     at
 }
 
-fn is_flag_if(year: u8, b: u8, bit: u32, payload: &[u8], at: usize) -> bool
-    ensures { λ r. ⌜ r ≡ (not (eqb bit 1 && eqb (described b .kind) kindBool) || leb (valueAt (width year (described b .kind)) (now (payload .entry)) at) 1) ⌝ }
+// A value of this kind at an offset is 0 or 1, if it is a BOOL.
+fn is_flag(year: u8, kind: u8, payload: &[u8], at: usize) -> bool
+    ensures { λ r. ⌜ r ≡ (not (eqb kind kindBool) || leb (valueAt (width year kind) (now (payload .entry)) at) 1) ⌝ }
 {
-    if bit == 1 {
-        let q = catalogue::describe(b);
-        if q.kind == catalogue::BOOL {
-            let v = value_at(width_of(year, q.kind), payload, at);
-            return v <= 1;
-        }
+    if kind == catalogue::BOOL {
+        let v = value_at(width_of(year, kind), payload, at);
+        return v <= 1;
     }
     true
 }
@@ -136,26 +136,28 @@ fn are_flags(
     map: u32,
     payload: &[u8],
 ) -> bool
-    requires { ⌜ (year ≡ slotOf (now row) .year) × BytesIn (now c) (deviceOf (now c) (slotOf (now row) .device)) bytes ⌝ }
+    requires { ⌜ Given (now c) (slotOf (now row)) year bytes ⌝ }
     ensures { λ r. ⌜ r ≡ allFlags (now (c .entry)) (slotOf (now (row .entry))) map (now (payload .entry)) ⌝ }
 {
     let mut rest = map;
     let mut at: usize = MAP_BYTES;
     let mut p: usize = 0;
     while 0 < rest {
-        if is_flag_if(year, bytes[p], rest % 2, payload, at) {
-            at += span_if(year, bytes[p], rest % 2);
-            rest = rest / 2;
-            p += 1;
-        } else {
-            return false;
+        if rest % 2 == 1 {
+            let q = catalogue::describe(bytes[p]);
+            if !is_flag(year, q.kind, payload, at) {
+                return false;
+            }
+            at += width_of(year, q.kind);
         }
+        rest = rest / 2;
+        p += 1;
     }
     true
 }
 
 fn judge(c: &[u8], row: &[u8], year: u8, bytes: [u8; MAX_PARAMETERS], payload: &[u8]) -> Answer
-    requires { ⌜ (year ≡ slotOf (now row) .year) × BytesIn (now c) (deviceOf (now c) (slotOf (now row) .device)) bytes ⌝ }
+    requires { ⌜ Given (now c) (slotOf (now row)) year bytes ⌝ }
     ensures { λ r. ⌜ verdictOf r ≡ judged (now (c .entry)) (slotOf (now (row .entry))) (now (payload .entry)) ⌝ }
 {
     let map = numbers::u32_at(payload, 0);
@@ -173,7 +175,7 @@ fn judge(c: &[u8], row: &[u8], year: u8, bytes: [u8; MAX_PARAMETERS], payload: &
 
 // The values that the payload has are put into the row, in place.
 fn store(c: &[u8], row: &mut [u8], year: u8, bytes: [u8; MAX_PARAMETERS], map: u32, payload: &[u8])
-    requires { ⌜ (year ≡ slotOf (now row) .year) × BytesIn (now c) (deviceOf (now c) (slotOf (now row) .device)) bytes × (isRow (now row) ≡ true) ⌝ }
+    requires { ⌜ Given (now c) (slotOf (now row)) year bytes × (isRow (now row) ≡ true) ⌝ }
     ensures { λ _. ⌜ now (row .exit) ≡ slotBytes (storedTo (now (c .entry)) (slotOf (now (row .entry))) map (now (payload .entry)) paramCount) ⌝ }
 {
     let mut rest = map;

@@ -1,4 +1,5 @@
--- "A held value is one of a whole number, a single float or a flag", and a single float as the double that is published.
+-- "A held value is one of a whole number, a single float or a flag"; a whole number of 16 bits as it is held, and a single float as the
+-- double that is published.
 use Prim.Native.Nat.{ℕ, _+_, _*_, _/_, _%_}
 use mathlib.Core.Bool as bool
 use mathlib.Core.Bool.{cond}

@@ -1,4 +1,4 @@
-// A held value: what its 32 bits mean by the parameter's kind, and a single float as a double.
+// A held value: what its 32 bits mean by the parameter's kind, a short whole number in 32 bits, and a single float as a double.
 ghost use mathlib.Core.Path.{_≡_};
 ghost use Rattle.value.specs.Meaning.{intOf, intBits, extended, floatBits, flagBits, meaningOf, meant, widened};
 

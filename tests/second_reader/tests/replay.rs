@@ -142,7 +142,7 @@ fn refusal(step: &str) -> Option<u64> {
 }
 
 /// The expected output of each capture in examples/ is what is printed here, a line for
-/// each step, and where the step says so a refusal with that number.
+/// each step: a refusal with the number that the step says, and no refusal where it says none.
 #[test]
 fn captures() {
     let folder = Path::new(env!("CARGO_MANIFEST_DIR")).join("../../examples");
@@ -160,8 +160,9 @@ fn captures() {
         let steps = std::fs::read_to_string(path.with_extension("steps")).unwrap();
         assert_eq!(printed.lines().count(), steps.lines().count(), "{name}");
         for (step, line) in steps.lines().zip(printed.lines()) {
-            if let Some(number) = refusal(step) {
-                assert_eq!(line, format!("refused {number}"), "{name}: {step}");
+            match refusal(step) {
+                Some(number) => assert_eq!(line, format!("refused {number}"), "{name}: {step}"),
+                None => assert!(!line.starts_with("refused"), "{name}: {step}"),
             }
         }
     }

@@ -25,14 +25,16 @@ slice-read-find-device c =
     omega (arith, row-length row (sym (tested .before .is-row .ensures) ∙ not-false _ (tested .if1 .left)))
 
 judge-requires : tie.Need-judge-requires
-judge-requires c κs = (refl, rw (c .before .before .find-device .ensures) at (c .before .parameter-bytes .ensures))
+judge-requires c κs = record {
+  year-is = refl;
+  bytes-are = rw (c .before .before .find-device .ensures) at (c .before .parameter-bytes .ensures);
+}
 
 store-requires : tie.Need-store-requires
 store-requires c κs =
     let found = c .before .before .before .before .before .before in
     let tested = found .before .before .before .before in (
-      refl,
-      rw (found .before .find-device .ensures) at (found .parameter-bytes .ensures),
+      record { year-is = refl; bytes-are = rw (found .before .find-device .ensures) at (found .parameter-bytes .ensures) },
       sym (tested .before .is-row .ensures) ∙ not-false _ (tested .if1 .left),
     )
 

@@ -36,7 +36,7 @@ loop-again c =
     let l = c .before .before .loop in
     let start = c .before .before .before .before .before in
     let below = bit-below (start .args .map) (omega arith) (l .inv .0) (l .inv .1) (c .before .loop-test .taken) in
-    let span = span-by (slotOf (start .args .row .now)) (start .pre .1) (l .p) (omega arith) (start .pre .0) (eqb (l .rest % 2) 1) in (
+    let span = span-by (slotOf (start .args .row .now)) (start .pre) (l .p) (omega arith) refl (eqb (l .rest % 2) 1) in (
       omega arith,
       rw (rest-more, ← l .inv .1),
       rw (offset-more, ← l .inv .1, ← span, ← c .span-if .ensures .0, ← l .inv .2),

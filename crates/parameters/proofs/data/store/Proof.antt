@@ -1,22 +1,19 @@
 -- `parameters::data::store` meets its contract. Invariant: the bytes are those of the row with the values of the first p
 -- parameters, `at` is where parameter p's value starts, and `rest` is the map without the bits below p.
-use Prim.Native.Nat.{_+_, _*_, _/_, _%_, _^_, _≤_}
-use mathlib.Core.Bool.{true, false}
+use Prim.Native.Nat.{_+_, _*_, _/_, _^_, _≤_}
 use mathlib.Core.Path.{_≡_, refl, sym, ap, _∙_}
 use mathlib.Core.Logic.{⊎-elim}
 use native.Mathlib.Omega.{arith}
 use borrow.Author.Needs.{needs}
-use borrow.Author.Tests.{eq-eqb, ne-eqb}
 use Rattle.wire.proofs.ByteLists.{all-bytes}
-use Rattle.catalogue.specs.declared.Parameter.{Parameter}
 use Rattle.slot.specs.Slot.{paramCount}
 use Rattle.slot.specs.Row.{slotOf, slotBytes}
 use Rattle.slot.proofs.Rows.{row-back, row-fits}
-use Rattle.parameters.specs.Data.{mapBytes, longWidth, width, widthOf, named, offsetOf, storedTo}
+use Rattle.parameters.specs.Data.{mapBytes, longWidth, widthOf, offsetOf, storedTo}
 use Rattle.parameters.proofs.ByBytes.{width-by}
 use Rattle.parameters.proofs.Rests.{bit-below, stored-rest}
 use Rattle.parameters.proofs.Rows.{StoredTo, row-length, stored-length, store-value, store-none}
-use Rattle.parameters.proofs.Steps.{rest-more, rest-none, offset-named, offset-unnamed}
+use Rattle.parameters.proofs.Steps.{rest-more, rest-none, bit-named, bit-unnamed, offset-named, offset-unnamed}
 use Rattle.parameters.proofs.Widths.{width-is}
 use Rattle.parameters.proofs.data.store.Statement.{statement}
 use Rattle.parameters.proofs.data.store.Tie as tie
@@ -39,7 +36,7 @@ loop-holds c =
       rest-none _,
       refl,
       omega arith,
-      record { bytes = sym (row-back row all (start .pre .2)); fits = row-fits row all },
+      record { bytes = sym (row-back row all (start .pre .1)); fits = row-fits row all },
     )
 
 array-read-describe : tie.Need-array-read-describe Inv-loop μ-loop
@@ -58,15 +55,14 @@ loop-again c =
     let s = slotOf (a .row .now) in
     let l = c .before .before .loop in
     let below = bit-below (a .map) (omega arith) (l .inv .0) (l .inv .1) (c .before .loop-test .taken) in
-    let yes : l .rest % 2 ≡ 1 → named (a .map) (l .p) ≡ true = λ e. rw (← l .inv .1) (eq-eqb _ _ e) in
-    let no : (l .rest % 2 ≡ 1 → ⊥) → named (a .map) (l .p) ≡ false = λ e. rw (← l .inv .1) (ne-eqb _ _ e) in
+    let yes = bit-named (a .map) (l .p) (l .inv .1) in
+    let no = bit-unnamed (a .map) (l .p) (l .inv .1) in
     let offset-is = offset-named (a .c .now) s (a .map) (l .p) in
     let same-offset = offset-unnamed (a .c .now) s (a .map) (l .p) in
-    let by-byte = width-by s (start .pre .1) (l .p) (omega arith) (start .pre .0) in
     ⊎-elim
     (λ w.
     let is-width : w .2 .result ≡ widthOf (a .c .now) s (l .p) =
-    w .2 .ensures .0 ∙ ap (λ (q : Parameter). width (a .year) (q .kind)) (w .1 .ensures) ∙ by-byte in (
+    w .2 .ensures .0 ∙ width-by s (start .pre .0) (l .p) (omega arith) (w .1 .ensures) in (
       omega arith,
       rw (rest-more, ← l .inv .1),
       rw (offset-is (yes (w .0 .taken)), ← l .inv .2, ← is-width) (w .9),
@@ -87,7 +83,7 @@ same-length : tie.Need-same-length Inv-loop μ-loop
 same-length c =
     let start = c .before .before .before .before .before in
     let l = c .before .loop in
-    stored-length _ _ _ _ (l .inv .4) ∙ sym (row-length (start .args .row .now) (start .pre .2))
+    stored-length _ _ _ _ (l .inv .4) ∙ sym (row-length (start .args .row .now) (start .pre .1))
 
 returns : tie.Need-returns Inv-loop μ-loop
 returns c =
