@@ -1,7 +1,7 @@
 -- What the definitions say of parameter p, by its byte in the catalogue.
 use Prim.Native.Nat.{ℕ, _<_}
 use mathlib.Core.Path.{_≡_, sym, ap, _∙_}
-use mathlib.Core.Bool.{Bool, true, _||_, not, cond}
+use mathlib.Core.Bool.{true, _||_, not}
 use mathlib.Core.List.{List}
 use lib.Dec.{leb, eqb}
 use lib.ListN.{getD}
@@ -10,12 +10,13 @@ use Rattle.catalogue.specs.Lookup.{deviceOf, parameterOf, BytesIn}
 use Rattle.catalogue.specs.declared.Parameter.{Parameter}
 use Rattle.catalogue.proofs.Bytes.{kind-is, readable-is}
 use Rattle.slot.specs.declared.Slot.{Slot}
-use Rattle.parameters.specs.Data.{width, widthOf, valueAt, spanIf, readableIf, flagIf}
+use Rattle.parameters.specs.Data.{width, widthOf, valueAt, readableIf, flagIf}
 use Rattle.parameters.specs.Given.{Given}
 
-module _ {c : List ℕ} (s : Slot) {bytes : List ℕ} (h : BytesIn c (deviceOf c (s .device)) bytes) (p : ℕ) (l : p < maxParameters) where
-  pub readable-by : (isNamed : Bool) → (not isNamed || described (getD bytes p 0) .readable) ≡ readableIf c s p isNamed
-  readable-by isNamed = ap (λ (r : Bool). not isNamed || r) (sym (readable-is h p l))
+pub readable-by :
+    {c : List ℕ} (s : Slot) {bytes : List ℕ} → BytesIn c (deviceOf c (s .device)) bytes → (p : ℕ) → p < maxParameters → {q : Parameter} →
+    q ≡ described (getD bytes p 0) → q .readable ≡ readableIf c s p true
+readable-by s h p l e = ap (λ (r : Parameter). r .readable) e ∙ sym (readable-is h p l)
 
 -- and by the year of the row
 module _
@@ -27,9 +28,6 @@ module _
 
     pub width-by : width year (q .kind) ≡ widthOf c s p
     width-by = rw (g .year-is, kind-by)
-
-    pub span-by : (isNamed : Bool) → cond isNamed (width year (q .kind)) 0 ≡ spanIf c s p isNamed
-    span-by isNamed = ap (λ (w : ℕ). cond isNamed w 0) width-by
 
     pub flag-by :
         (payload : List ℕ) (at : ℕ) →

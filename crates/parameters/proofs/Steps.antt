@@ -27,11 +27,11 @@ bit-named map p e b = rw (← e) (eq-eqb _ _ b)
 pub bit-unnamed : (map p : ℕ) {rest : ℕ} → rest ≡ map / 2 ^ p → (rest % 2 ≡ 1 → ⊥) → named map p ≡ false
 bit-unnamed map p e b = rw (← e) (ne-eqb _ _ b)
 
-pub offset-more : (c : List ℕ) (s : Slot) (map p : ℕ) → offsetOf c s map (p + 1) ≡ offsetOf c s map p + spanIf c s p (named map p)
+offset-more : (c : List ℕ) (s : Slot) (map p : ℕ) → offsetOf c s map (p + 1) ≡ offsetOf c s map p + spanIf c s p (named map p)
 unfolding offsetOf
 offset-more c s map p = rw (add-one p)
 
-pub stored-more :
+stored-more :
     (c : List ℕ) (s : Slot) (map : ℕ) (payload : List ℕ) (p : ℕ) →
     storedTo c s map payload (p + 1) ≡ storeIf (named map p) (storedTo c s map payload p) p (valueIn c s map payload p)
 unfolding storedTo

@@ -5,9 +5,9 @@ use table::Answer;
 use table::Place;
 ghost use Prim.Native.Nat.{_≤_};
 ghost use mathlib.Core.Path.{_≡_};
-ghost use mathlib.Core.Bool.{true, _||_, not, cond};
+ghost use mathlib.Core.Bool.{true, _||_, not};
 ghost use lib.Dec.{leb, eqb};
-ghost use Rattle.catalogue.specs.Format.{kindBool, described};
+ghost use Rattle.catalogue.specs.Format.{kindBool};
 ghost use Rattle.catalogue.specs.Lookup.{deviceOf, BytesIn};
 ghost use Rattle.slot.specs.Slot.{paramCount};
 ghost use Rattle.slot.specs.Row.{slotOf, slotBytes, isRow};
@@ -58,17 +58,6 @@ fn value_at(w: usize, payload: &[u8], at: usize) -> u32
     wire::byte_at(payload, at) as u32
 }
 
-// Whether a parameter may be sent goes by its byte in the catalogue and its bit in the map.
-fn is_readable_if(b: u8, bit: u32) -> bool
-    ensures { λ r. ⌜ r ≡ (not (eqb bit 1) || described b .readable) ⌝ }
-{
-    if bit == 1 {
-        let q = catalogue::describe(b);
-        return q.readable;
-    }
-    true
-}
-
 // 16: each parameter that the map names is readable. Here and below `bytes` are those of the device type and `year` is the
 // row's; the contract alone asks for the catalogue and the row. Each loop ends when no set bit is left, since most packets name
 // few parameters.
@@ -79,25 +68,16 @@ fn are_readable(c: &[u8], row: &[u8], bytes: [u8; MAX_PARAMETERS], map: u32) -> 
     let mut rest = map;
     let mut p: usize = 0;
     while 0 < rest {
-        if is_readable_if(bytes[p], rest % 2) {
-            rest = rest / 2;
-            p += 1;
-        } else {
-            return false;
+        if rest % 2 == 1 {
+            let q = catalogue::describe(bytes[p]);
+            if !q.readable {
+                return false;
+            }
         }
+        rest = rest / 2;
+        p += 1;
     }
     true
-}
-
-// How many bytes the parameter takes in the packet.
-fn span_if(year: u8, b: u8, bit: u32) -> usize
-    ensures { λ r. ⌜ (r ≡ cond (eqb bit 1) (width year (described b .kind)) 0) × (r ≤ longWidth) ⌝ }
-{
-    if bit == 1 {
-        let q = catalogue::describe(b);
-        return width_of(year, q.kind);
-    }
-    0
 }
 
 // 17: how many bytes a payload with this map has.
@@ -109,7 +89,10 @@ fn size_of(c: &[u8], row: &[u8], year: u8, bytes: [u8; MAX_PARAMETERS], map: u32
     let mut at: usize = MAP_BYTES;
     let mut p: usize = 0;
     while 0 < rest {
-        at += span_if(year, bytes[p], rest % 2);
+        if rest % 2 == 1 {
+            let q = catalogue::describe(bytes[p]);
+            at += width_of(year, q.kind);
+        }
         rest = rest / 2;
         p += 1;
     }

@@ -1,54 +1,46 @@
--- `parameters::data::size_of` meets its contract. Invariant: `at` is where parameter p's value starts, and `rest` is the
--- map without the bits below p.
-use Prim.Native.Nat.{_+_, _*_, _/_, _%_, _^_, _≤_}
-use mathlib.Core.Path.{_≡_, refl, sym, _∙_}
+-- `parameters::data::size_of` meets its contract. Invariant: where the loop stands.
+use mathlib.Core.Path.{sym, _∙_}
+use mathlib.Core.Logic.{⊎-elim}
 use native.Mathlib.Omega.{arith}
-use lib.Dec.{eqb}
 use borrow.Author.Needs.{needs}
-use Rattle.slot.specs.Slot.{paramCount}
 use Rattle.slot.specs.Row.{slotOf}
-use Rattle.parameters.specs.Data.{mapBytes, longWidth, offsetOf, sizeOf}
-use Rattle.parameters.proofs.ByBytes.{span-by}
-use Rattle.parameters.proofs.Rests.{bit-below, offset-rest}
-use Rattle.parameters.proofs.Steps.{offset-more, rest-more, rest-none}
+use Rattle.parameters.specs.Data.{sizeOf}
+use Rattle.parameters.proofs.ByBytes.{width-by}
+use Rattle.parameters.proofs.Rests.{offset-rest}
+use Rattle.parameters.proofs.Walks.{bits-below, Walk, walk-none, walk-named, walk-unnamed}
 use Rattle.parameters.proofs.data.size_of.Statement.{statement}
 use Rattle.parameters.proofs.data.size_of.Tie as tie
 
 abbrev Inv-loop : tie.InvT-loop
-Inv-loop c row year map bytes rest₀ at₀ p₀ rest at p =
-    (p ≤ paramCount) × (rest ≡ map / 2 ^ p) × (at ≡ offsetOf c (slotOf row) map p) × (at ≤ mapBytes + longWidth * p)
+Inv-loop c row year map bytes rest₀ at₀ p₀ rest at p = Walk c (slotOf row) map rest at p
 
 abbrev μ-loop : tie.MeasureT-loop
 μ-loop c row year map bytes rest₀ at₀ p₀ rest at p = rest
 
 loop-holds : tie.Need-loop-holds Inv-loop μ-loop
-unfolding offsetOf
-loop-holds c = (omega arith, rest-none _, refl, omega arith)
+loop-holds c = walk-none _ _ _
 
-array-read-span-if : tie.Need-array-read-span-if Inv-loop μ-loop
-array-read-span-if c =
-    let l = c .before .loop in
-    let start = c .before .before .before .before in
-    bit-below (start .args .map) (omega arith) (l .inv .0) (l .inv .1) (c .loop-test .taken)
+array-read-describe : tie.Need-array-read-describe Inv-loop μ-loop
+array-read-describe c = bits-below (c .before .before .loop .inv .bits) (omega arith) (c .before .loop-test .taken)
 
 loop-again : tie.Need-loop-again Inv-loop μ-loop
 loop-again c =
     let l = c .before .before .loop in
     let start = c .before .before .before .before .before in
-    let below = bit-below (start .args .map) (omega arith) (l .inv .0) (l .inv .1) (c .before .loop-test .taken) in
-    let span = span-by (slotOf (start .args .row .now)) (start .pre) (l .p) (omega arith) refl (eqb (l .rest % 2) 1) in (
-      omega arith,
-      rw (rest-more, ← l .inv .1),
-      rw (offset-more, ← l .inv .1, ← span, ← c .span-if .ensures .0, ← l .inv .2),
-      omega arith,
-    )
+    let below = bits-below (l .inv .bits) (omega arith) (c .before .loop-test .taken) in
+    ⊎-elim
+    (λ w.
+    let width = width-by (slotOf (start .args .row .now)) (start .pre) (l .p) below (w .1 .ensures) in
+    walk-named (l .inv) below (w .0 .taken) (w .2 .ensures .0 ∙ width) (w .2 .ensures .1) (w .3))
+    (λ w. walk-unnamed (l .inv) below (w .0 .left) (w .1))
+    (c .if1 .came)
 
 returns : tie.Need-returns Inv-loop μ-loop
 unfolding sizeOf
 returns c =
     let l = c .before .loop in
     let start = c .before .before .before .before in
-    l .inv .2 ∙ sym (offset-rest (start .args .map) (l .inv .0) (l .inv .1) (c .loop-test .left) _ _)
+    l .inv .at-is ∙ sym (offset-rest (start .args .map) (l .inv .bits .most) (l .inv .bits .rest-is) (c .loop-test .left) _ _)
 
 pub size-of-spec : {M : Type 1} → statement M
 size-of-spec =
@@ -57,7 +49,8 @@ size-of-spec =
     Inv-loop
     μ-loop
     loop-holds
-    array-read-span-if
+    array-read-describe
+    (λ c κs. search needs)
     (λ c κs. search needs)
     (λ c. search needs)
     (λ c. search needs)
