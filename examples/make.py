@@ -12,7 +12,7 @@ import struct
 PING, ACK, DEVICE_WRITE, DEVICE_DATA, LOG = 1, 2, 3, 4, 5
 INT, FLOAT, BOOL = 0, 1, 2
 READABLE, WRITABLE = 4, 8
-# The first year whose devices send an INT as four bytes; older ones send it as two.
+# The first year whose devices send an INT as four bytes; devices of earlier years send two.
 LONG_INT_YEAR = 6
 OLD, NEW = LONG_INT_YEAR - 1, LONG_INT_YEAR
 

@@ -7,7 +7,7 @@
 
 enum { PACKET_ROOM = 257, PAYLOAD_LIMIT = 251 };
 enum { PING = 1, ACK = 2, DEVICE_WRITE = 3, DEVICE_DATA = 4, LOG = 5 };
-/* The first year whose devices send an INT as four bytes; older ones send it as two. */
+/* The first year whose devices send an INT as four bytes; those of earlier years send two. */
 enum { LONG_INT_YEAR = 6 };
 
 /* Puts 00, L and the blocks of a message behind it, whatever the message says. Answers the

@@ -138,8 +138,8 @@ module _
     (c t : List ℕ) (socket : ℕ) (bytes payload : List ℕ) (consumed n : ℕ) (r : Reached c t) (h : Bytes bytes)
     (w : StartsWith bytes ACK payload consumed) (a : receivedOf c t socket bytes .outcome ≡ accepted n)
   where
-    -- LAW: behind an accepted ACK, a second one too, values have the widths of the year that it brings, and a payload is judged as the
-    -- ACK's row has it, whatever is called, until the socket's next accepted ACK or its leaving
+    -- LAW: behind an accepted ACK, a second one too, values have the widths of the year that it brings, and a payload is judged as
+    -- by the row that the ACK made, whatever is called, until the socket's next accepted ACK or its leaving
     pub widths-behind-ack :
         (es : List Event) → ByteEvents es → StaysAll c (receivedOf c t socket bytes .table) socket es →
         (u : Slot) × (rowOf slotCount (afterAll c (receivedOf c t socket bytes .table) es) socket ≡ some u) ×
@@ -148,7 +148,9 @@ module _
     widths-behind-ack es g k =
         let ack = ackRow socket payload in
         let x = devices-kept c (receivedOf c t socket bytes .table) socket ack es after g own-ack k in
-        (x .row, x .is-row, same-width c ack (x .row) (x .same), same-judged c ack (x .row) (x .same))
+        let type = x .same .device-same in
+        let year = x .same .year-same in
+        (x .row, x .is-row, same-width c ack (x .row) type year, same-judged c ack (x .row) type year)
       where
         after : Reached c (receivedOf c t socket bytes .table)
         after = one-more c t (receive socket bytes) h r

@@ -1,5 +1,5 @@
 -- Two rows of one device type. If they are of one year, a payload is laid out and judged alike for both. If their INTs differ in width,
--- a payload that is laid out for the one and names an INT is 17 for the other.
+-- a payload that is laid out for the one, and names an INT and readable parameters alone, is 17 for the other.
 use Prim.Native.Nat.{ℕ, zero, suc, _≤_, _<_, _^_}
 use mathlib.Core.Path.{_≡_, refl, sym, ap, _∙_}
 use mathlib.Core.Bool.{Bool, true, false, cond}
@@ -18,15 +18,14 @@ use Rattle.table.specs.Change.{refused}
 use Rattle.parameters.specs.Data.{mapOf, named, longIntYear, shortWidth, longWidth, flagWidth, width, widthOf, spanIf, offsetOf, valueIn}
 use Rattle.parameters.specs.Data.{readableIf, allReadable, sizeOf, flagIf, allFlags, judged}
 use Rattle.parameters.proofs.Widths.{width-old, width-new}
-use Rattle.parameters.proofs.Values.{SameDevice}
 use Rattle.parameters.proofs.Judged.{means-refused-17}
 use Rattle.parameters.proofs.Payloads.{payloadOf, map-back, size-back}
 
 -- ROWS OF ONE YEAR
-module _ (c : List ℕ) (s u : Slot) (h : SameDevice s u) where
+module _ (c : List ℕ) (s u : Slot) (d : u .device ≡ s .device) (y : u .year ≡ s .year) where
   -- LAW: values have the same widths
   pub same-width : (p : ℕ) → widthOf c u p ≡ widthOf c s p
-  same-width p = rw (h .device-same, h .year-same)
+  same-width p = rw (d, y)
 
   same-offset : (map n : ℕ) → offsetOf c u map n ≡ offsetOf c s map n
   unfolding offsetOf
@@ -40,13 +39,13 @@ module _ (c : List ℕ) (s u : Slot) (h : SameDevice s u) where
   same-readable : (map : ℕ) → allReadable c u map ≡ allReadable c s map
   unfolding allReadable
   same-readable map =
-      every-same paramCount (λ p. readableIf c u p (named map p)) (λ p. readableIf c s p (named map p)) (λ p l. rw (h .device-same))
+      every-same paramCount (λ p. readableIf c u p (named map p)) (λ p. readableIf c s p (named map p)) (λ p l. rw d)
 
   same-flags : (map : ℕ) (payload : List ℕ) → allFlags c u map payload ≡ allFlags c s map payload
   unfolding allFlags
   same-flags map payload =
       every-same paramCount (λ p. flagIf c u p (named map p) (valueIn c u map payload p))
-      (λ p. flagIf c s p (named map p) (valueIn c s map payload p)) (λ p l. rw (same-value map payload p, h .device-same))
+      (λ p. flagIf c s p (named map p) (valueIn c s map payload p)) (λ p l. rw (same-value map payload p, d))
 
   -- LAW: and is judged alike
   pub same-judged : (payload : List ℕ) → judged c u payload ≡ judged c s payload
@@ -77,7 +76,7 @@ laid-out-17 c s u map values m r n =
       differs = λ z. n (sym (size-back c u map values) ∙ z ∙ ap (sizeOf c s) e);
     })
 
--- s is the row of an old device, u that of a new one; the map names an INT
+-- s is the row of an old device, u that of a new one; each parameter that the map names is readable, and one is an INT
 module _
     (c : List ℕ) (s u : Slot) (d : u .device ≡ s .device) (old : s .year < longIntYear) (new : longIntYear ≤ u .year) (map : ℕ)
     (r : (q : ℕ) → q < paramCount → named map q ≡ true → parameterOf c (s .device) q .readable ≡ true) (p : ℕ) (l : p < paramCount)

@@ -1,7 +1,7 @@
 pub mod Steps
 pub mod Widths
-pub mod Rests
 pub mod Walks
+pub mod Rests
 pub mod ByBytes
 pub mod Stores
 pub mod Values

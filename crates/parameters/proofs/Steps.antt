@@ -1,5 +1,5 @@
 -- One step of each definition that a loop follows, with the map's bits taken from below.
-use Prim.Native.Nat.{ℕ, _+_, _/_, _%_, _^_}
+use Prim.Native.Nat.{ℕ, _+_, _/_, _^_}
 use mathlib.Core.Path.{_≡_, sym}
 use mathlib.Core.Bool.{true, false}
 use mathlib.Core.List.{List}
@@ -7,7 +7,6 @@ use native.Mathlib.Numerals.{add-one}
 use native.Mathlib.Nat.{add-zero, div-one, div-div-eq-div-mul, pow-succ', mul-comm}
 use native.Mathlib.Omega.{arith}
 use lib.ListN.{getD}
-use borrow.Author.Tests.{eq-eqb, ne-eqb}
 use Rattle.wire.specs.Number.{numberAt}
 use Rattle.wire.proofs.Numbers.{number-step}
 use Rattle.slot.specs.Slot.{withValue}
@@ -19,13 +18,6 @@ rest-none map = sym (div-one map)
 
 pub rest-more : (map p : ℕ) → map / 2 ^ (p + 1) ≡ map / 2 ^ p / 2
 rest-more map p = rw (add-one p, pow-succ' 2 p, div-div-eq-div-mul map (2 ^ p) 2, mul-comm (2 ^ p) 2)
-
--- whether a parameter is named is the lowest bit of the rest
-pub bit-named : (map p : ℕ) {rest : ℕ} → rest ≡ map / 2 ^ p → rest % 2 ≡ 1 → named map p ≡ true
-bit-named map p e b = rw (← e) (eq-eqb _ _ b)
-
-pub bit-unnamed : (map p : ℕ) {rest : ℕ} → rest ≡ map / 2 ^ p → (rest % 2 ≡ 1 → ⊥) → named map p ≡ false
-bit-unnamed map p e b = rw (← e) (ne-eqb _ _ b)
 
 offset-more : (c : List ℕ) (s : Slot) (map p : ℕ) → offsetOf c s map (p + 1) ≡ offsetOf c s map p + spanIf c s p (named map p)
 unfolding offsetOf

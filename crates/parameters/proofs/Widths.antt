@@ -113,6 +113,10 @@ Carried w value = (number : ℕ) × (number < 256 ^ w) × (value ≡ heldBits w 
 pub carried-plain : (w value : ℕ) → w ≢ shortWidth → value < 256 ^ w → Carried w value
 carried-plain w value n l = (value, l, sym (held-plain w value n))
 
+-- LAW: and no others
+pub plain-carries : (w value : ℕ) → w ≢ shortWidth → Carried w value → value < 256 ^ w
+plain-carries w value n (number, l, e) = rw (e, held-plain w number n) l
+
 -- LAW: two bytes carry the signed numbers of 16 bits
 pub carried-short : (z : ℤ) → SFits w16 z → Carried shortWidth (intBits z)
 carried-short z f = (ofZ w16 z, fits-ofZ f .fits, ap intBits (sym (toZ-ofZ f)) ∙ sym (held-short (ofZ w16 z)))

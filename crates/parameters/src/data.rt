@@ -21,7 +21,7 @@ const MAP_BYTES: usize = 4;
 // The first year whose devices send an INT as four bytes.
 const LONG_INT_YEAR: u8 = 6;
 
-// The widths that there are: an old device's INT, every other INT and a FLOAT, a BOOL.
+// The widths that there are: SHORT for an old device's INT, LONG for every other INT and a FLOAT, FLAG for a BOOL.
 const SHORT: usize = 2;
 
 const LONG: usize = 4;

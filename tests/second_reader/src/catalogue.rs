@@ -5,7 +5,7 @@ use crate::Error;
 /// Device types in a catalogue, and parameters of a device, at most.
 pub const TYPE_LIMIT: usize = 32;
 pub const PARAMETER_LIMIT: usize = 32;
-/// The first year whose devices send an INT as four bytes; older ones send it as two.
+/// The first year whose devices send an INT as four bytes; those of earlier years send two.
 pub const LONG_INT_YEAR: u8 = 6;
 
 #[derive(Clone, Copy, PartialEq, Eq, Debug)]

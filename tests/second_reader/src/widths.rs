@@ -29,9 +29,9 @@ pub enum Shown {
     ShortBelowZero = 1,
     /// A long INT that two bytes do not hold is accepted.
     LongBeyondShort = 2,
-    /// 17 for long INTs, at their length, from a device that sends short ones.
+    /// 17 for values as long as with long INTs, from a device that sends short ones.
     LongRefused = 3,
-    /// 17 for short INTs, at their length, from a device that sends long ones.
+    /// 17 for values as long as with short INTs, from a device that sends long ones.
     ShortRefused = 4,
     /// Long INTs are accepted behind a second ACK, before which they were short.
     LongBehindAck = 5,

@@ -56,7 +56,7 @@ loop-again c =
     (λ w.
     let width = width-by s (start .pre) (l .p) below (w .1 .ensures) in
     let test = flag-by s (start .pre) (l .p) below (w .1 .ensures) (start .args .payload .now) (l .at) in (
-      walk-named walk below (w .0 .taken) (w .4 .ensures .0 ∙ width) (w .4 .ensures .1) (w .5),
+      walk-named walk below (w .0 .taken) (w .4 .ensures .0 ∙ width) (w .5),
       every-more _ _ (l .inv .1)
           (rw (bits-named (walk .bits) (w .0 .taken), ← walk .at-is) (sym (w .2 .ensures ∙ test) ∙ not-false _ (w .3 .left))),
     ))
@@ -69,8 +69,7 @@ loop-again c =
 returns-2 : tie.Need-returns-2 Inv-loop μ-loop
 returns-2 c =
     let l = c .before .loop in
-    let start = c .before .before .before .before .before in
-    flags-rest (start .args .map) (l .inv .0 .bits .most) (l .inv .0 .bits .rest-is) (c .loop-test .left) _ _ _ (l .inv .1)
+    flags-rest (l .inv .0 .bits) (c .loop-test .left) _ _ _ (l .inv .1)
 
 pub are-flags-spec : {M : Type 1} → statement M
 are-flags-spec =

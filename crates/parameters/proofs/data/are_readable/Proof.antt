@@ -58,8 +58,7 @@ loop-again c =
 returns-2 : tie.Need-returns-2 Inv-loop μ-loop
 returns-2 c =
     let l = c .before .loop in
-    let start = c .before .before .before .before in
-    readables-rest (start .args .map) (l .inv .0 .most) (l .inv .0 .rest-is) (c .loop-test .left) _ _ (l .inv .1)
+    readables-rest (l .inv .0) (c .loop-test .left) _ _ (l .inv .1)
 
 pub are-readable-spec : {M : Type 1} → statement M
 are-readable-spec =

@@ -31,7 +31,7 @@ loop-again c =
     ⊎-elim
     (λ w.
     let width = width-by (slotOf (start .args .row .now)) (start .pre) (l .p) below (w .1 .ensures) in
-    walk-named (l .inv) below (w .0 .taken) (w .2 .ensures .0 ∙ width) (w .2 .ensures .1) (w .3))
+    walk-named (l .inv) below (w .0 .taken) (w .2 .ensures .0 ∙ width) (w .3))
     (λ w. walk-unnamed (l .inv) below (w .0 .left) (w .1))
     (c .if1 .came)
 
@@ -39,8 +39,7 @@ returns : tie.Need-returns Inv-loop μ-loop
 unfolding sizeOf
 returns c =
     let l = c .before .loop in
-    let start = c .before .before .before .before in
-    l .inv .at-is ∙ sym (offset-rest (start .args .map) (l .inv .bits .most) (l .inv .bits .rest-is) (c .loop-test .left) _ _)
+    l .inv .at-is ∙ sym (offset-rest (l .inv .bits) (c .loop-test .left) _ _)
 
 pub size-of-spec : {M : Type 1} → statement M
 size-of-spec =

@@ -49,7 +49,7 @@ loop-again c =
     (λ w.
     let is-width : w .2 .result ≡ widthOf (a .c .now) s (l .p) =
     w .2 .ensures .0 ∙ width-by s (start .pre .0) (l .p) below (w .1 .ensures) in (
-      walk-named walk below (w .0 .taken) is-width (w .2 .ensures .1) (w .9),
+      walk-named walk below (w .0 .taken) is-width (w .9),
       store-value (a .c .now) s (a .map) (a .payload .now) (l .inv .1) (w .3 .result) (bits-named (walk .bits) (w .0 .taken)) below
           (rw (← walk .at-is, ← is-width) (w .3 .ensures)) (omega arith) (w .8 ∙ w .5 .ensures),
     ))
@@ -67,9 +67,8 @@ same-length c =
 
 returns : tie.Need-returns Inv-loop μ-loop
 returns c =
-    let start = c .before .before .before .before .before in
     let l = c .before .loop in
-    l .inv .1 .bytes ∙ ap slotBytes (sym (stored-rest (start .args .map) (l .inv .0 .bits .most) (l .inv .0 .bits .rest-is) (c .loop-test .left) _ _ _))
+    l .inv .1 .bytes ∙ ap slotBytes (sym (stored-rest (l .inv .0 .bits) (c .loop-test .left) _ _ _))
 
 pub store-spec : {M : Type 1} → statement M
 store-spec =
