@@ -8,6 +8,7 @@ use lib.Dec.{eqb}
 use borrow.Author.Tests.{eqb-true, ne-eqb, eq-eqb, le-leb, lt-leb}
 use Rattle.list.specs.declared.Kind.{Kind}
 use Rattle.list.specs.declared.Kind.the-variants.{Int, Float, Str, Blob, Vocab}
+use Rattle.list.specs.declared.KindFound.{KindFound}
 use Rattle.list.specs.declared.KindFound.the-variants.{Is, Unknown}
 use Rattle.list.specs.Kind.{codeOf, kindOf, listCode, typedCode}
 use Rattle.list.specs.Tree.{Value, Elements, none, value, list, kind}
@@ -66,6 +67,29 @@ typed-no-list k = ne-eqb (typedCode k) listCode (λ e. omega (arith, code-low k 
 pub kind-no-list : (k : Kind) → isListCode (codeOf k) ≡ false
 unfolding isListCode
 kind-no-list k = rw (ne-eqb (codeOf k) listCode (λ e. omega (arith, code-low k .1)), lt-leb listCode (codeOf k) (code-low k .1))
+
+-- a code that is no kind's names none
+pub not-kind : (code : ℕ) → ((k : Kind) → code ≡ codeOf k → ⊥) → kindOf code ≡ Unknown
+not-kind code other = go (kindOf code) refl
+  where
+    go : (found : KindFound) → kindOf code ≡ found → found ≡ Unknown
+    go (Is k) e = absurd (other k (code-of-kind code k e))
+    go Unknown e = refl
+
+pub kind-not-list : (code : ℕ) (k : Kind) → kindOf code ≡ Is k → isListCode code ≡ false
+kind-not-list code k e = ap isListCode (code-of-kind code k e) ∙ kind-no-list k
+
+pub list-no-kind : (code : ℕ) → isListCode code ≡ true → kindOf code ≡ Unknown
+list-no-kind code h =
+    not-kind code (λ k e. let y : isListCode code ≡ false = ap isListCode e ∙ kind-no-list k in let z : _≡_ {A = ℕ} 0 1 = cc in omega arith)
+
+-- what holds of each kind holds of all
+pub each-kind : (P : Kind → Type 0) → P Int → P Vocab → P Float → P Str → P Blob → (k : Kind) → P k
+each-kind P a b c d e Int = a
+each-kind P a b c d e Vocab = b
+each-kind P a b c d e Float = c
+each-kind P a b c d e Str = d
+each-kind P a b c d e Blob = e
 
 pub mixed-is-code : isListCode listCode ≡ true
 unfolding isListCode

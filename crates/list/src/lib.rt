@@ -145,6 +145,17 @@ pub enum KindFound {
     Unknown,
 }
 
+// "The code is 256 plus the kind": the codes of the lists of one kind, whose elements carry none.
+pub const INTS: u32 = LIST_CODE + Kind::INT;
+
+pub const FLOATS: u32 = LIST_CODE + Kind::FLOAT;
+
+pub const STRINGS: u32 = LIST_CODE + Kind::STR;
+
+pub const BLOBS: u32 = LIST_CODE + Kind::BLOB;
+
+pub const VOCABS: u32 = LIST_CODE + Kind::VOCAB;
+
 impl Kind {
     pub const INT: u32 = 1;
 

@@ -1,6 +1,6 @@
 -- Laws of the codes of lists.
 use Prim.Native.Nat.{ℕ, _-_, _≤_}
-use mathlib.Core.Path.{_≡_, refl, ap, _∙_}
+use mathlib.Core.Path.{_≡_, refl}
 use mathlib.Core.Bool.{Bool, true, false, _&&_, _||_}
 use native.Mathlib.Omega.{arith}
 use lib.Dec.{eqb, leb}
@@ -12,7 +12,7 @@ use Rattle.list.specs.declared.KindFound.{KindFound}
 use Rattle.list.specs.declared.KindFound.the-variants.{Is, Unknown}
 use Rattle.list.specs.Kind.{codeOf, kindOf, listCode, typedCode}
 use Rattle.list.specs.Parse.{isKind, isListCode}
-use Rattle.list.proofs.Codes.{code-of-kind, kind-no-list}
+use Rattle.list.proofs.Codes.{code-of-kind}
 
 pub list-high : (code : ℕ) → isListCode code ≡ true → listCode ≤ code
 unfolding isListCode
@@ -30,16 +30,6 @@ list-typed code h n = go (kindOf (code - listCode)) refl (rw (ne-eqb code listCo
     go : (f : KindFound) → kindOf (code - listCode) ≡ f → (leb listCode code && isKind f) ≡ true → (k : Kind) × (code ≡ typedCode k)
     go (Is k) e q = (k, omega (arith, leb-true listCode code (and-left (leb listCode code) true q), code-of-kind (code - listCode) k e))
     go Unknown e q = absurd (let y : false ≡ true = and-right (leb listCode code) false q in let z : _≡_ {A = ℕ} 0 1 = cc in omega arith)
-
-pub kind-not-list : (code : ℕ) (k : Kind) → kindOf code ≡ Is k → isListCode code ≡ false
-kind-not-list code k e = ap isListCode (code-of-kind code k e) ∙ kind-no-list k
-
-pub list-no-kind : (code : ℕ) → isListCode code ≡ true → kindOf code ≡ Unknown
-list-no-kind code h = go (kindOf code) refl
-  where
-    go : (f : KindFound) → kindOf code ≡ f → f ≡ Unknown
-    go Unknown e = refl
-    go (Is k) e = absurd (let y : isListCode code ≡ false = kind-not-list code k e in let z : _≡_ {A = ℕ} 0 1 = cc in omega arith)
 
 -- a code that is none of the kinds'
 module _ (code : ℕ) (i : code ≡ codeOf Int → ⊥) (v : code ≡ codeOf Vocab → ⊥) (f : code ≡ codeOf Float → ⊥) (s : code ≡ codeOf Str → ⊥) (b : code ≡ codeOf Blob → ⊥) where

@@ -7,3 +7,4 @@ pub mod Typed
 pub mod Mixed
 pub mod Front
 pub mod Promised
+pub mod Whole

@@ -14,15 +14,14 @@ use Rattle.list.specs.Limits.{listLimit}
 use Rattle.list.specs.Kind.{codeOf, kindOf, sizeOf, listCode, typedCode}
 use Rattle.list.specs.Refusal.{Refusal, refusal}
 use Rattle.list.specs.Strings.{negative}
-use Rattle.list.specs.Tree.{Value, Elements, none, value, list, kind}
+use Rattle.list.specs.Tree.{Value, Elements, value, list}
 use Rattle.list.specs.Bytes.{common, commonOf, listCodeOf}
 use Rattle.list.specs.Parse.{Parsed, good, bad, andThen, word, valueAt, typedAt, isListCode, codedValue, codedAt, mixedAt, elementsAt, finished, listAt}
-use Rattle.list.proofs.Codes.{kind-of-code, kind-of-list, kind-of-typed, kind-no-list}
+use Rattle.list.proofs.Codes.{kind-of-code, kind-of-list, kind-of-typed, kind-no-list, kind-not-list}
 use Rattle.list.proofs.TypedRun.{Fixed}
 use Rattle.list_check.specs.Check.{Verdict, accepted, refused, judged}
 use Rattle.list_check.specs.Steps.{toldBy, missingAt, closeOf, Refuses}
 use Rattle.list_check.proofs.Told.{told-end, thenGo, stopped, went-on, item-missing, there}
-use Rattle.list_check.proofs.Codes.{kind-not-list}
 use Rattle.list_check.proofs.KindRead.{value-kind}
 use Rattle.list_check.proofs.Typed.{value-missing, fixed-there}
 

@@ -1,5 +1,7 @@
 // Judges the list at the front of a slice: where it ends, or the first fault from the front.
+use list::BLOBS;
 use list::DEPTH_LIMIT;
+use list::INTS;
 use list::Kind;
 use list::KindFound;
 use list::LIST_CODE;
@@ -17,11 +19,11 @@ ghost use lib.Dec.{ltb};
 ghost use lib.ListN.{length};
 ghost use Rattle.list.specs.Limits.{listLimit};
 ghost use Rattle.list.specs.Kind.{sizeOf};
-ghost use Rattle.list.specs.Refusal.{refusal};
+ghost use Rattle.list.specs.Refusal.{refusal, refusalOf};
 ghost use Rattle.list.specs.Strings.{closed};
 ghost use Rattle.list.specs.Parse.{word, valueAt, typedAt, isListCode, codedAt, listAt, parse};
 ghost use Rattle.list.proofs.TypedRun.{Fixed};
-ghost use Rattle.list_check.specs.Check.{refused, judged, verdictOf, checkingOf};
+ghost use Rattle.list_check.specs.Check.{refused, judged, verdictOf, checkingOf, whole, faultOf};
 ghost use Rattle.list_check.specs.Steps.{toldBy, missingAt, firstZero, closeOf, Refuses, runKind, TypedAnswer};
 
 // The offset behind what was judged, or why it is refused.
@@ -31,7 +33,7 @@ pub enum Checked {
 }
 
 // Inside, an answer is one number, which stays in a register (a struct would go through memory): an offset up to the limit,
-// or from FAULT on a refusal. `refuse` makes one and `answer` takes it apart; between them it is handed on whole.
+// or from FAULT on a refusal. `refuse` makes one and `refusal_of` takes it apart; between them it is handed on whole.
 type Judged = usize;
 
 const FAULT: usize = 2 * LIST_LIMIT;
@@ -49,14 +51,21 @@ fn is_refused(j: Judged) -> bool
     LIST_LIMIT < j
 }
 
+fn refusal_of(j: Judged) -> Refusal
+    requires { ⌜ listLimit < j ⌝ }
+    ensures { λ r. ⌜ refused (refusalOf r) ≡ toldBy j ⌝ }
+{
+    Refusal {
+        error: (j / FAULT % 256) as u8,
+        offset: j % FAULT,
+    }
+}
+
 fn answer(j: Judged) -> Checked
     ensures { λ r. ⌜ verdictOf r ≡ toldBy j ⌝ }
 {
     if is_refused(j) {
-        return Checked::Refused(Refusal {
-            error: (j / FAULT % 256) as u8,
-            offset: j % FAULT,
-        });
+        return Checked::Refused(refusal_of(j));
     }
     Checked::Ok(j)
 }
@@ -355,11 +364,6 @@ fn front_fault(s: &[u8]) -> Judged
     refuse(22, 0)
 }
 
-// The codes of a list of ints and of a list of blobs.
-const INTS: u32 = LIST_CODE + Kind::INT;
-
-const BLOBS: u32 = LIST_CODE + Kind::BLOB;
-
 // The list at the front of bytes that are cut at the limit. The empty list, which a hub with no devices publishes, ints and
 // blobs are judged without a call of the recursive checker.
 fn check_front(s: &[u8]) -> Judged
@@ -417,4 +421,45 @@ pub fn check(s: &[u8]) -> Checked
 {
     let end = last_end(s.len());
     answer(check_front(&s[0..end]))
+}
+
+// The list at the front. Of the codes that have a way of their own in `check_front` only that of the empty list has one here.
+fn check_any(s: &[u8]) -> Judged
+    requires { ⌜ length (now s) ≤ listLimit ⌝ }
+    ensures { λ r. ⌜ toldBy r ≡ judged (parse listLimit (now (s .entry))) ⌝ }
+{
+    if s.len() < 2 * NUMBER {
+        return front_fault(s);
+    }
+    let code = u32_at(s, 0);
+    let count = u32_at(s, NUMBER);
+    let empty = (code == LIST_CODE) & (count == 0);
+    if empty {
+        return 2 * NUMBER;
+    }
+    if is_list_code(code) {
+        return check_list(s, 0, code, count, DEPTH_LIMIT);
+    }
+    refuse(22, 0)
+}
+
+// The fault of an area that is to be one list and no more, its number 0 where there is none.
+pub fn fault(s: &[u8]) -> Refusal
+    ensures { λ r. ⌜ refusalOf r ≡ faultOf (whole (now (s .entry))) ⌝ }
+{
+    let end = last_end(s.len());
+    let j = check_any(&s[0..end]);
+    if is_refused(j) {
+        return refusal_of(j);
+    }
+    if j < s.len() {
+        return Refusal {
+            error: 29,
+            offset: j,
+        };
+    }
+    Refusal {
+        error: 0,
+        offset: 0,
+    }
 }

@@ -9,7 +9,7 @@ use Rattle.list.specs.declared.KindFound.{KindFound}
 use Rattle.list.specs.declared.KindFound.the-variants.{Is, Unknown}
 use Rattle.list.specs.Kind.{codeOf, kindOf, listCode, typedCode}
 use Rattle.list.specs.Parse.{word}
-use Rattle.list.proofs.Codes.{kind-of-code, code-of-kind, kind-of-list, kind-of-typed}
+use Rattle.list.proofs.Codes.{kind-of-code, kind-of-list, kind-of-typed}
 use Rattle.list_decode.specs.declared.put.Cursor.{Cursor}
 use Rattle.list_decode.specs.Pieces.{cursor, Piece, both, plain, valuePiece, foundRun, listPiece, elementPiece, RunHere, FoundHere, CodedHere, Room, Written}
 use Rattle.list_decode.proofs.Writing.{room-second, written-both}
@@ -81,18 +81,3 @@ module _ (s : List ℕ) (x : Cursor) (code : ℕ) (is : code ≡ word s (x .pos)
 
     pub typed-here : CodedHere s (kindOf (word s (x .pos))) (x .pos) → (listCode ≤ code) × ((code ≡ listCode → ⊥) → FoundHere s (kindOf (code - listCode)) second (x .pos + 8))
     typed-here h = rw (← is, no-kind, ← is, ← next) at h
-
--- a code that is no kind's
-pub not-kind : (code : ℕ) → ((k : Kind) → code ≡ codeOf k → ⊥) → kindOf code ≡ Unknown
-not-kind code other = go (kindOf code) refl
-  where
-    go : (found : KindFound) → kindOf code ≡ found → found ≡ Unknown
-    go (Is k) e = absurd (other k (code-of-kind code k e))
-    go Unknown e = refl
-
-pub each-kind : (P : Kind → Type 0) → P Int → P Vocab → P Float → P Str → P Blob → (k : Kind) → P k
-each-kind P a b c d e Int = a
-each-kind P a b c d e Vocab = b
-each-kind P a b c d e Float = c
-each-kind P a b c d e Str = d
-each-kind P a b c d e Blob = e

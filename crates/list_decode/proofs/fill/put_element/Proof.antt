@@ -5,7 +5,8 @@ use native.Mathlib.Omega.{arith}
 use Rattle.list.specs.declared.Kind.the-variants.{Int, Float, Str, Blob, Vocab}
 use Rattle.list.specs.Kind.{codeOf}
 use Rattle.list_decode.proofs.Writing.{length-read, no-bytes}
-use Rattle.list_decode.proofs.Elements.{room-at, written-at, value-is, value-here, mixed-is, typed-is, typed-here, not-kind, each-kind}
+use Rattle.list.proofs.Codes.{not-kind, each-kind}
+use Rattle.list_decode.proofs.Elements.{room-at, written-at, value-is, value-here, mixed-is, typed-is, typed-here}
 use borrow.Author.Needs.{needs}
 use Rattle.list_decode.proofs.fill.put_element.Statement.{statement}
 use Rattle.list_decode.proofs.fill.put_element.Tie as tie
