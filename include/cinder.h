@@ -1,10 +1,11 @@
 /*
  * Packets, lists and the hub for firmware: the readers of the display, the calls of the
- * hub, the writers, and lists as text. Link with libcinder.a.
+ * hub, the writers, lists as text, and settings. Link with libcinder.a.
  *
  * Every call answers for every content of its areas. The caller answers for one thing:
- * each area is there, is as long as its length says, and shares no byte with another
- * area of the same call. A pointer with length 0 may be null. No call keeps a pointer.
+ * each area is there, is as long as its length says, and, if the call writes to it,
+ * shares no byte with another area of the same call. A pointer with length 0 may be null.
+ * No call keeps a pointer.
  *
  * Numbers in areas are low byte first. The calls use no heap and need nothing but
  * memcpy, memmove, memset and strlen.
@@ -354,6 +355,33 @@ typedef struct {
  *   28  the list would have more than 4,096 bytes
  */
 cinder_text_result cinder_text_decode(const uint8_t *text, size_t text_len, uint8_t *rows, size_t rows_len, uint8_t *store, size_t store_len);
+
+typedef struct {
+    uint64_t error, list, offset, length;
+} cinder_setting_result;
+
+/*
+ * Finds the value of a setting: that of the first entry with the key in the guest's list,
+ * or else that of the first one in the house list. `guest` and `house` are each to be one
+ * whole list. An entry is an element of the outermost list that is a list of exactly two
+ * strings, the key and the value; all other elements are passed over. The key may be any
+ * bytes, also none; one with a zero in it is in no list.
+ *
+ * On success error is 0, list is 1 for the guest's list and 2 for the house list, and offset
+ * and length say where the value's bytes stand in that area, without the closing zero. They
+ * are not copied, and no area is written.
+ *
+ * On an error length is 0, and error is the first of these, in this order:
+ *
+ *   21 to 28  the guest's list, as cinder_list_decode gives them; no bytes are 21
+ *   29  bytes are left behind the guest's list; the offset is that of the first
+ *   21 to 29  the house list, in the same way, also where the guest's list has the key
+ *   33  neither list has an entry with the key
+ *
+ * For 21 to 29 list says which list it is, and offset counts from the front of that area.
+ * For 33 list and offset are 0.
+ */
+cinder_setting_result cinder_setting_find(const uint8_t *guest, size_t guest_len, const uint8_t *house, size_t house_len, const uint8_t *key, size_t key_len);
 
 #ifdef __cplusplus
 }

@@ -30,6 +30,7 @@ enum call {
     LIST_ENCODE,
     TEXT_ENCODE,
     TEXT_DECODE,
+    SETTING_FIND,
     CALLS
 };
 
@@ -37,7 +38,7 @@ static const char *const call_names[CALLS] = {
     "cinder_packet_decode", "cinder_list_decode", "cinder_stream_next",
     "cinder_hub_receive",   "cinder_hub_detach",  "cinder_hub_publish",
     "cinder_hub_read",      "cinder_packet_encode", "cinder_list_encode",
-    "cinder_text_encode",   "cinder_text_decode"};
+    "cinder_text_encode",   "cinder_text_decode", "cinder_setting_find"};
 
 struct deepest {
     size_t bytes;
@@ -51,7 +52,7 @@ static struct deepest deepest[CALLS];
 /* The call to make; a context's function takes no pointers. */
 static struct {
     enum call call;
-    /* What is read: bytes, a payload, rows or a text. */
+    /* What is read: bytes, a payload, rows, a text or the guest's list. */
     const uint8_t *bytes;
     size_t length;
     /* The offset, the type, or the socket. */
@@ -62,6 +63,10 @@ static struct {
     uint8_t *table;
     const uint8_t *stored;
     size_t stored_length;
+    const uint8_t *house;
+    size_t house_length;
+    const uint8_t *key;
+    size_t key_length;
     size_t first_room;
     size_t store_room;
     cinder_list_result answer;
@@ -131,9 +136,14 @@ static void make_call(void)
         given.written = written.written;
         break;
     }
-    default:
+    case TEXT_DECODE:
         given.answer.error = cinder_text_decode(given.bytes, given.length, first,
                                                 given.first_room, store, given.store_room)
+                                 .error;
+        break;
+    default:
+        given.answer.error = cinder_setting_find(given.bytes, given.length, given.house,
+                                                 given.house_length, given.key, given.key_length)
                                  .error;
     }
 }
@@ -249,8 +259,31 @@ static void written_back(const char *input)
     }
 }
 
+/* A list as the guest's, as the house's and as both, beside one with an entry. */
+static void setting(const uint8_t *bytes, size_t length, const char *input)
+{
+    /* The zero that closes the literal closes the value. */
+    static const uint8_t other[] =
+        "\0\1\0\0\1\0\0\0\4\1\0\0\2\0\0\0\2\0\0\0b\0\2\0\0\0c";
+    static const char *const keys[] = {"aaa", "b"};
+    given.call = SETTING_FIND;
+    for (size_t at = 0; at < sizeof keys / sizeof keys[0]; at++) {
+        given.key = (const uint8_t *)keys[at];
+        given.key_length = strlen(keys[at]);
+        for (int sides = 1; sides <= 3; sides++) {
+            given.bytes = sides & 1 ? bytes : other;
+            given.length = sides & 1 ? length : sizeof other;
+            given.house = sides & 2 ? bytes : other;
+            given.house_length = sides & 2 ? length : sizeof other;
+            measure(input);
+        }
+    }
+}
+
+/* The last answer is that of reading the list alone. */
 static void list(const uint8_t *bytes, size_t length, const char *input)
 {
+    setting(bytes, length, input);
     given.bytes = bytes;
     given.length = length;
     given.number = 0;
@@ -403,6 +436,29 @@ static void all_lists(void)
                                          : depth == 8 ? "eight nested lists"
                                                       : "fewer nested lists");
                     }
+}
+
+/* Full lists of entries whose keys have all lengths up to this one, whole and cut. */
+static void all_settings(void)
+{
+    static uint8_t bytes[BYTES_ROOM];
+    for (uint32_t longest = 0; longest < 60; longest++) {
+        uint32_t count = 0;
+        size_t at = 8;
+        while (at + 18 + 2 * longest <= LIST_LIMIT) {
+            put_words(bytes + at, (uint32_t[]){260, 2}, 2);
+            at += 8;
+            at += put_element(bytes + at, 4, false, longest - count % (longest + 1));
+            at += put_element(bytes + at, 4, false, longest);
+            count++;
+        }
+        put_words(bytes, (uint32_t[]){256, count}, 2);
+        for (size_t there = at % 61; there <= at; there += 61) {
+            setting(bytes, there, "a list of entries");
+            /* The last key is in neither of two such lists. */
+            check(given.answer.error == (there < at ? 21 : 33), "setting", "a list of entries");
+        }
+    }
 }
 
 /* Rows of lists in each other, more of them than may be. */
@@ -601,6 +657,7 @@ int main(void)
     too_small();
     all_packets();
     all_lists();
+    all_settings();
     deep_rows();
     deep_texts();
     all_hub_calls();

@@ -4,3 +4,4 @@ pub mod StreamAnswers
 pub mod WriteAnswers
 pub mod PacketTrips
 pub mod HubAnswers
+pub mod SettingAnswers

@@ -4,3 +4,4 @@ pub mod StreamCall
 pub mod WriteCall
 pub mod HubCall
 pub mod TextCall
+pub mod SettingCall

@@ -2,6 +2,7 @@
 mod hub_call;
 mod list_call;
 mod packet_call;
+mod setting_call;
 mod stream_call;
 mod text_call;
 mod write_call;
@@ -15,6 +16,8 @@ pub use list_call::ListResult;
 pub use list_call::cinder_list_decode;
 pub use packet_call::PacketResult;
 pub use packet_call::cinder_packet_decode;
+pub use setting_call::SettingResult;
+pub use setting_call::cinder_setting_find;
 pub use stream_call::cinder_stream_next;
 pub use text_call::TextResult;
 pub use text_call::cinder_text_decode;

@@ -8,7 +8,9 @@ pub use hub::{hub_detach, hub_publish, hub_read, hub_receive};
 pub use list::list_decode;
 #[cfg(feature = "packet")]
 pub use packet::packet_decode;
-pub use results::{ListResult, PacketResult, TextResult, ValueResult, WriteResult};
+pub use results::{ListResult, PacketResult, SettingResult, TextResult, ValueResult, WriteResult};
+#[cfg(feature = "setting")]
+pub use setting::setting_find;
 #[cfg(feature = "stream")]
 pub use stream::stream_next;
 #[cfg(feature = "text")]
@@ -51,6 +53,16 @@ mod results {
         pub error: u64,
         pub rows: u64,
         pub stored: u64,
+    }
+
+    /// `cinder_setting_result`.
+    #[repr(C)]
+    #[derive(Clone, Copy, PartialEq, Eq, Debug)]
+    pub struct SettingResult {
+        pub error: u64,
+        pub list: u64,
+        pub offset: u64,
+        pub length: u64,
     }
 
     /// `cinder_value_result`.
@@ -360,6 +372,37 @@ mod text {
                 rows.len(),
                 store.as_mut_ptr(),
                 store.len(),
+            )
+        }
+    }
+}
+
+#[cfg(feature = "setting")]
+mod setting {
+    use super::SettingResult;
+
+    extern "C" {
+        fn cinder_setting_find(
+            guest: *const u8,
+            guest_len: usize,
+            house: *const u8,
+            house_len: usize,
+            key: *const u8,
+            key_len: usize,
+        ) -> SettingResult;
+    }
+
+    #[inline]
+    pub fn setting_find(guest: &[u8], house: &[u8], key: &[u8]) -> SettingResult {
+        // SAFETY: each pointer and length come from one slice.
+        unsafe {
+            cinder_setting_find(
+                guest.as_ptr(),
+                guest.len(),
+                house.as_ptr(),
+                house.len(),
+                key.as_ptr(),
+                key.len(),
             )
         }
     }

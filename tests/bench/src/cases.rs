@@ -4,6 +4,8 @@
 use crate::hub;
 #[cfg(any(feature = "packet", feature = "list", feature = "stream"))]
 use crate::readers;
+#[cfg(feature = "setting")]
+use crate::settings;
 #[cfg(feature = "text")]
 use crate::texts;
 #[cfg(feature = "writers")]
@@ -73,5 +75,7 @@ pub fn all() -> Vec<Box<dyn Case>> {
     cases.extend(hub::all());
     #[cfg(feature = "text")]
     cases.extend(texts::all());
+    #[cfg(feature = "setting")]
+    cases.extend(settings::all());
     cases
 }

@@ -15,9 +15,12 @@
     feature = "stream",
     feature = "hub",
     feature = "writers",
-    feature = "text"
+    feature = "text",
+    feature = "setting"
 )))]
-compile_error!("name the calls to measure: --features packet, list, stream, hub, writers, text");
+compile_error!(
+    "name the calls to measure: --features packet, list, stream, hub, writers, text, setting"
+);
 
 mod cases;
 #[cfg(feature = "hub")]
@@ -32,6 +35,8 @@ mod plain;
 mod programs;
 #[cfg(any(feature = "packet", feature = "list", feature = "stream"))]
 mod readers;
+#[cfg(feature = "setting")]
+mod settings;
 #[cfg(feature = "text")]
 mod texts;
 #[cfg(feature = "writers")]

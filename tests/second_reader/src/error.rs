@@ -32,9 +32,11 @@ pub enum Error {
     ElementCodeUnknown = 26,
     TooDeep = 27,
     BeyondLimit = 28,
+    BytesLeft = 29,
     NotOneList = 30,
     NoTextForm = 31,
     NotAText = 32,
+    KeyInNeither = 33,
 }
 
 impl Error {

@@ -4,8 +4,8 @@
 //! Every call judges its whole input first and then fills the lent buffers, so an
 //! error leaves them as they were. No call allocates, apart from those that answer
 //! a program's output as text. The module `definition` says the same once more in the
-//! paper's own words, with no regard to speed. `generate` makes inputs for the comparison,
-//! and `widths` tells what they show.
+//! paper's own words, with no regard to speed. `generate` makes inputs for the comparison;
+//! `widths` and `lookups` tell what they show.
 
 pub mod calls;
 pub mod catalogue;
@@ -14,9 +14,11 @@ pub mod error;
 pub mod generate;
 pub mod hub;
 pub mod list;
+pub mod lookups;
 pub mod packet;
 pub mod random;
 pub mod replay;
+pub mod setting;
 pub mod stream;
 pub mod table;
 pub mod text;

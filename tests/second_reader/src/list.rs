@@ -58,13 +58,13 @@ impl Kind {
 
 /// What a list's code says of its elements.
 #[derive(Clone, Copy)]
-enum Form {
+pub(crate) enum Form {
     Untyped,
     Typed(Kind),
 }
 
 impl Form {
-    fn of_code(code: u32) -> Option<Form> {
+    pub(crate) fn of_code(code: u32) -> Option<Form> {
         if code == LIST_CODE {
             return Some(Form::Untyped);
         }
@@ -104,14 +104,20 @@ pub fn decode(bytes: &[u8], rows: &mut [u8], store: &mut [u8]) -> Result<Decoded
     if rows.len() < ROWS_ROOM || store.len() < STORE_ROOM {
         return Err(ListError { error: Error::BufferTooSmall, offset: 0 });
     }
-    let bytes = &bytes[..bytes.len().min(LIST_LIMIT)];
-    let mut judge = Judge { bytes, at: 0 };
-    judge.outermost().map_err(|Fault(error, offset)| ListError { error, offset: offset.into() })?;
-    let consumed = judge.at;
+    let consumed = size(bytes)?;
     let mut fill = Fill { bytes, at: 0, rows, filled: 0, store, used: 0 };
     let code = fill.word();
     fill.list(code);
     Ok(Decoded { consumed, rows: fill.filled / ROW_BYTES, stored: fill.used })
+}
+
+/// The size of the list at the front of `bytes`.
+#[inline]
+pub(crate) fn size(bytes: &[u8]) -> Result<usize, ListError> {
+    let bytes = &bytes[..bytes.len().min(LIST_LIMIT)];
+    let mut judge = Judge { bytes, at: 0 };
+    judge.outermost().map_err(|Fault(error, offset)| ListError { error, offset: offset.into() })?;
+    Ok(judge.at)
 }
 
 /// An error and its offset, which is at most the limit; small enough for a register.
@@ -121,7 +127,7 @@ fn fault(error: Error, offset: usize) -> Fault {
     Fault(error, offset as u16)
 }
 
-fn word_at(bytes: &[u8], at: usize) -> u32 {
+pub(crate) fn word_at(bytes: &[u8], at: usize) -> u32 {
     u32::from_le_bytes(bytes[at..at + WORD].try_into().unwrap())
 }
 

@@ -6,6 +6,7 @@ pub mod hub;
 pub mod list;
 pub mod packet;
 pub mod replay;
+pub mod setting;
 pub mod stream;
 pub mod table;
 pub mod text;
@@ -14,7 +15,7 @@ pub mod writers;
 use crate::random::Random;
 
 /// Numbers that a damaged input is likely to be judged wrongly by.
-const TELLING_WORDS: [u32; 16] =
+pub const TELLING_WORDS: [u32; 16] =
     [0, 1, 4, 9, 10, 12, 256, 257, 260, 265, 266, 268, 512, 0x7fff_ffff, 0x8000_0000, 0xffff_ffff];
 
 /// Changes `bytes` in one way: a byte, a word, a cut, a byte taken out or put in, or

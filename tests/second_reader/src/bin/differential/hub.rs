@@ -2,6 +2,7 @@
 //! kept as bytes, and tables and bytes of every kind.
 
 use crate::buffers::{exact, patterned, put, Outcome, DEFINITION};
+use crate::lent::Lent;
 use crate::report::{count_answer, hex, Answers, Difference, Section, READER};
 use archive::{hub_detach, hub_publish, hub_read, hub_receive};
 use second_reader::catalogue::{Catalogue, LONG_INT_YEAR, PARAMETER_LIMIT};
@@ -33,38 +34,6 @@ pub const SECTION: Section = Section {
     enumerated,
     random: random_case,
 };
-
-/// The bytes before and behind a lent table that no call may change.
-const GUARD: usize = 16;
-
-/// A table lent from the middle of a buffer, or as the whole of one, so that a memory
-/// checker sees the first byte beyond.
-#[derive(Clone, Copy)]
-enum Lent {
-    Guarded,
-    Whole,
-}
-
-impl Lent {
-    fn guard(self) -> usize {
-        match self {
-            Lent::Guarded => GUARD,
-            Lent::Whole => 0,
-        }
-    }
-
-    fn buffer(self, table: &[u8], pattern: u64) -> Box<[u8]> {
-        let guard = self.guard();
-        let mut buffer = patterned(table.len() + 2 * guard, pattern);
-        put(&mut buffer[guard..], table);
-        buffer
-    }
-
-    fn table(self, buffer: &mut [u8]) -> &mut [u8] {
-        let end = buffer.len() - self.guard();
-        &mut buffer[self.guard()..end]
-    }
-}
 
 /// The numbers of an answer, 0 where it has fewer.
 type Numbers = [u64; 3];
@@ -160,22 +129,22 @@ impl Series<'_> {
         let names = ["table's buffer", "list"];
         let case = || told(catalogue, table, call, pattern);
         let mut found = Outcome::of(buffers(), |[table, list]| {
-            by_product(catalogue, call, lent.table(table), list)
+            by_product(catalogue, call, lent.area(table), list)
         });
         let reader = Outcome::of(buffers(), |[table, list]| {
-            by_reader(catalogue, call, lent.table(table), list)
+            by_reader(catalogue, call, lent.area(table), list)
         });
         reader.owed(READER, &found, names, case)?;
         if matches!(call, Call::Publish { .. }) {
             let defined = Outcome::of(buffers(), |[table, list]| {
-                let [error, written] = calls::sized(published(catalogue, lent.table(table), list));
+                let [error, written] = calls::sized(published(catalogue, lent.area(table), list));
                 [error, written, 0]
             });
             defined.owed(DEFINITION, &found, names, case)?;
         }
         self.count(call, reader.answer);
         self.table.clear();
-        self.table.extend(&*lent.table(&mut found.buffers[0]));
+        self.table.extend(&*lent.area(&mut found.buffers[0]));
         Ok(())
     }
 

@@ -1,5 +1,5 @@
-//! Compares the product with the second reader on seeded inputs, packets, lists and texts
-//! also with their definitions: each answer, and every byte of every lent buffer.
+//! Compares the product with the second reader on seeded inputs, packets, lists, texts and
+//! settings also with their definitions: each answer, and every byte of every lent buffer.
 //!
 //! Sections of archive calls are compiled in by the features of the same names; the
 //! programs' sections are always there.
@@ -10,12 +10,15 @@
     feature = "stream",
     feature = "hub",
     feature = "writers",
-    feature = "text"
+    feature = "text",
+    feature = "setting"
 ))]
 mod buffers;
 mod crash;
 #[cfg(feature = "hub")]
 mod hub;
+#[cfg(any(feature = "hub", feature = "setting"))]
+mod lent;
 #[cfg(feature = "list")]
 mod list;
 #[cfg(any(feature = "list", feature = "stream"))]
@@ -25,6 +28,8 @@ mod options;
 mod packet;
 mod programs;
 mod report;
+#[cfg(feature = "setting")]
+mod setting;
 #[cfg(feature = "stream")]
 mod stream;
 #[cfg(feature = "text")]
@@ -43,17 +48,19 @@ use std::time::{Duration, Instant};
 fn sections() -> Vec<(Section, u64)> {
     vec![
         #[cfg(feature = "packet")]
-        (packet::SECTION, 270),
+        (packet::SECTION, 230),
         #[cfg(feature = "list")]
-        (list::SECTION, 270),
+        (list::SECTION, 230),
         #[cfg(feature = "stream")]
-        (stream::SECTION, 100),
+        (stream::SECTION, 90),
         #[cfg(feature = "hub")]
         (hub::SECTION, 110),
         #[cfg(feature = "writers")]
-        (writers::SECTION, 105),
+        (writers::SECTION, 100),
         #[cfg(feature = "text")]
-        (text::SECTION, 100),
+        (text::SECTION, 95),
+        #[cfg(feature = "setting")]
+        (setting::SECTION, 100),
         (programs::RUN, 15),
         (programs::REPLAY, 15),
         (programs::SHOW, 15),

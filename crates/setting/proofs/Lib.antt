@@ -1,0 +1,10 @@
+pub mod Equal
+pub mod Turns
+pub mod Entries
+pub mod Walk
+pub mod Standing
+pub mod Search
+pub mod Answers
+pub mod Meaning
+pub mod Within
+pub mod Cases

@@ -1,0 +1,4 @@
+pub mod Entry
+pub mod Lookup
+pub mod Meaning
+pub mod Steps
