@@ -102,7 +102,7 @@ message-means (k ∷ l ∷ r) h g =
     }
 
 -- a judgement that accepts was given for no error
-no-refusal : (s : List ℕ) (kind n consumed : ℕ) → decoded s .judgement ≡ accepted kind n consumed → packetError s ≡ 0
+pub no-refusal : (s : List ℕ) (kind n consumed : ℕ) → decoded s .judgement ≡ accepted kind n consumed → packetError s ≡ 0
 unfolding refusal
 no-refusal s kind n consumed h = by (eqb (packetError s) 0) refl
   where
@@ -113,7 +113,7 @@ no-refusal s kind n consumed h = by (eqb (packetError s) 0) refl
         let z : _≡_ {A = ℕ} 0 1 = cc q in absurd (omega arith)
 
 -- the three parts of a packet that is not refused, one after the other
-framed-again : (s : List ℕ) → Front s → 0 ∷ lengthByte s ∷ partPresent s ≡ take (lengthByte s + 2) s
+pub framed-again : (s : List ℕ) → Front s → 0 ∷ lengthByte s ∷ partPresent s ≡ take (lengthByte s + 2) s
 framed-again [] f = absurd (omega (arith, f .whole))
 framed-again (a ∷ []) f = absurd (omega (arith, f .whole))
 framed-again (a ∷ b ∷ r) f =

@@ -9,3 +9,4 @@ pub mod DecodeStages
 pub mod Accepted
 pub mod OneByte
 pub mod Cases
+pub mod Stands

@@ -20,6 +20,13 @@ pub record IsPacket (bytes : List ℕ) (kind : ℕ) (payload : List ℕ) : Type 
   pub coded : Encodes part (messageOf kind payload)
   pub allows : allowed kind (length payload) ≡ true
 
+-- "L 4 to 255"
+abbrev pub PART_LEAST : ℕ
+PART_LEAST = 4
+
+abbrev pub PART_MOST : ℕ
+PART_MOST = 255
+
 -- bytes that start with a packet of that type and payload, `consumed` bytes long ("Later bytes are ignored")
 pub record StartsWith (s : List ℕ) (kind : ℕ) (payload : List ℕ) (consumed : ℕ) : Type 0 where
   pub bytes : List ℕ
@@ -65,7 +72,7 @@ frontError s =
     cond (eqb (length s) 0) 1
     (cond (not (eqb (getD s 0 0) 0)) 2
     (cond (eqb (length s) 1) 1
-    (cond (ltb (lengthByte s) 4) 3
+    (cond (ltb (lengthByte s) PART_LEAST) 3
     (cond (hasZero (partPresent s)) 4
     (cond (ltb (length s) (lengthByte s + 2)) 1
     0)))))

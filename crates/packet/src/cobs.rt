@@ -32,20 +32,21 @@ pub fn scan(bytes: &[u8]) -> Scanned
 // What a walk from code to code of a part finds.
 pub struct Walked {
     pub lack: usize,
-    pub sum: u8,
+    pub sum: usize,
 }
 
-// How many bytes the last block lacks, and the exclusive or of the message: that of the part without its codes.
+// How many bytes the last block lacks, and the exclusive or of the message: that of the part without its codes. It is taken in the
+// width of an offset, since a code is both added and taken in.
 pub fn walk(part: &[u8], all: u8) -> Walked
     requires { ⌜ (length (now part) ≤ 255) × (hasZero (now part) ≡ false) × (all ≡ xorFrom 0 (now part)) ⌝ }
     ensures { λ r. ⌜ (r .lack ≡ lacking 0 (now (part .entry))) × (r .sum ≡ xorFrom 0 (decodedPart (now (part .entry)))) ⌝ }
 {
-    let mut sum = all;
+    let mut sum = all as usize;
     let mut i = 0;
     while i < part.len() {
-        let code = part[i];
+        let code = part[i] as usize;
         sum = sum ^ code;
-        i += code as usize;
+        i += code;
     }
     Walked {
         lack: i - part.len(),

@@ -6,9 +6,13 @@ mod read;
 pub use message::is_allowed;
 pub use read::decode;
 pub use read::decode_into;
+pub use read::packet_error;
 
 // Room for any packet: the size of a working copy, and the least buffer that is written to.
 pub const PACKET_ROOM: usize = 257;
+
+// The fewest encoded bytes that a packet may have; the most are what its length byte holds.
+pub const PART_LEAST: usize = 4;
 
 // The types of messages.
 pub const PING: u8 = 1;

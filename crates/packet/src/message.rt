@@ -30,7 +30,7 @@ pub fn is_allowed(kind: u8, n: usize) -> bool
 }
 
 // The error of a part's message with that exclusive or of all its bytes, 0 where there is none.
-pub fn message_error(part: &[u8], sum: u8) -> u8
+pub fn message_error(part: &[u8], sum: usize) -> u8
     requires { ⌜ (4 ≤ length (now part)) × (hasZero (now part) ≡ false) × (sum ≡ xorFrom 0 (decodedPart (now part))) ⌝ }
     ensures { λ r. ⌜ r ≡ messageError (decodedPart (now (part .entry))) ⌝ }
 {

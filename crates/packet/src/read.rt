@@ -2,6 +2,7 @@
 use super::Answer;
 use super::Decoded;
 use super::PACKET_ROOM;
+use super::PART_LEAST;
 use super::cobs::decode_part;
 use super::cobs::scan;
 use super::cobs::walk;
@@ -37,7 +38,7 @@ fn front_error(bytes: &[u8]) -> Front
         return refused(1);
     }
     let n = bytes[1] as usize;
-    if n < 4 {
+    if n < PART_LEAST {
         return refused(3);
     }
     if bytes.len() < n + 2 {
@@ -57,7 +58,7 @@ fn front_error(bytes: &[u8]) -> Front
 }
 
 // The error of the packet at the front, 0 where there is none.
-fn packet_error(bytes: &[u8]) -> u8
+pub fn packet_error(bytes: &[u8]) -> u8
     ensures { λ r. ⌜ r ≡ packetError (now (bytes .entry)) ⌝ }
 {
     let front = front_error(bytes);

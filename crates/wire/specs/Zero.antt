@@ -8,3 +8,15 @@ unfoldable pub hasZero : List ℕ → Bool
 hasZero [] = false
 hasZero (zero ∷ bs) = true
 hasZero (suc b ∷ bs) = hasZero bs
+
+-- how many bytes stand before the first 00; all of them where there is none
+unfoldable pub zeroAt : List ℕ → ℕ
+zeroAt [] = 0
+zeroAt (zero ∷ bs) = 0
+zeroAt (suc b ∷ bs) = suc (zeroAt bs)
+
+-- is every byte 00
+unfoldable pub allZero : List ℕ → Bool
+allZero [] = true
+allZero (zero ∷ bs) = allZero bs
+allZero (suc b ∷ bs) = false

@@ -1,9 +1,10 @@
 // One byte, bytes that are copied, and the search for a zero. Every public function answers for every input.
 ghost use mathlib.Core.Path.{_≡_};
 ghost use Prim.Native.Nat.{_*_, _≤_, _<_};
-ghost use lib.ListN.{length, getD};
+ghost use mathlib.Core.Bool.{false};
+ghost use lib.ListN.{length, getD, take, replicate};
 ghost use Rattle.wire.specs.Area.{blockSize, putAt, replaced};
-ghost use Rattle.wire.specs.Zero.{hasZero};
+ghost use Rattle.wire.specs.Zero.{hasZero, zeroAt, allZero};
 
 // The byte at an offset, 0 past the end.
 pub fn byte_at(s: &[u8], at: usize) -> u8
@@ -26,6 +27,59 @@ pub fn has_zero(s: &[u8]) -> bool
         i += 1;
     }
     found
+}
+
+// Is every byte 00, by one exit too.
+pub fn is_zero(s: &[u8]) -> bool
+    ensures { λ r. ⌜ r ≡ allZero (now (s .entry)) ⌝ }
+{
+    let mut other = false;
+    let mut i = 0;
+    while i < s.len() {
+        other = other | (s[i] != 0);
+        i += 1;
+    }
+    !other
+}
+
+// How many bytes the search for a 00 passes over at once.
+const STRIDE: usize = 32;
+
+// The offset of the first 00, the length where there is none. Whole strides without one are passed over first.
+pub fn zero_at(s: &[u8]) -> usize
+    ensures { λ r. ⌜ r ≡ zeroAt (now (s .entry)) ⌝ }
+{
+    let mut i: usize = 0;
+    while STRIDE <= s.len() - i && !has_zero(&s[i..i + STRIDE]) {
+        i += STRIDE;
+    }
+    zero_from(s, i)
+}
+
+// The same from an offset before which there is none.
+fn zero_from(s: &[u8], from: usize) -> usize
+    requires { ⌜ (from ≤ length (now s)) × (hasZero (take from (now s)) ≡ false) ⌝ }
+    ensures { λ r. ⌜ r ≡ zeroAt (now (s .entry)) ⌝ }
+{
+    let mut i = from;
+    while i < s.len() {
+        if s[i] == 0 {
+            return i;
+        }
+        i += 1;
+    }
+    i
+}
+
+// Zeros over all of a buffer.
+pub fn clear(area: &mut [u8])
+    ensures { λ _. ⌜ now (area .exit) ≡ replicate (length (now (area .entry))) 0 ⌝ }
+{
+    let mut i = 0;
+    while i < area.len() {
+        area[i] = 0;
+        i += 1;
+    }
 }
 
 // `src` from an offset on, where all of it fits; else nothing changes.

@@ -26,8 +26,8 @@ loop-holds c = (walk-start (c .args .part .now), c .pre .2)
 shared-slice-read-code : tie.Need-shared-slice-read-code Inv-loop μ-loop
 shared-slice-read-code c = search needs
 
-cast-i : tie.Need-cast-i Inv-loop μ-loop
-cast-i c = omega (arith, c .shared-slice-known .given (c .before .before .loop .i))
+cast-code : tie.Need-cast-code Inv-loop μ-loop
+cast-code c = omega (arith, c .shared-slice-known .given (c .before .before .loop .i))
 
 add-i : tie.Need-add-i Inv-loop μ-loop
 add-i c = let l = c .before .before in omega (arith, c .shared-slice-known .given (l .loop .i), l .before .pre .0)
@@ -57,7 +57,7 @@ walk-spec =
     μ-loop
     loop-holds
     shared-slice-read-code
-    cast-i
+    cast-code
     add-i
     loop-less
     loop-again
