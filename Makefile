@@ -25,13 +25,14 @@ layout:
 
 # The programs and the archive, each proved before it is built.
 built:
-	rt check run replay show
+	rt check run replay show line
 	rt staticlib cinder
 
 outside: built
 	tests/run_cases.sh
 	tests/replay_cases.sh
 	tests/show_cases.sh
+	tests/line_cases.sh
 	tests/no_arrays.sh
 	$(MAKE) --no-print-directory -C tests all
 

@@ -17,7 +17,8 @@ done
 target/bin/show < "$posted" > "$texts"
 
 echo "A cup sensor on socket 2 and a syrup pump on socket 5; the pump is an old one, of year 5, that sends its INTs in two bytes."
-echo "Then bad packets come, nearly all of them from the sensor."
+echo "Then bad packets come, nearly all of them from the sensor. Late in the evening the sensor's bytes come as its line brings them, in scraps:"
+echo "good packets are found in them, and what is none is told (line refused)."
 echo "Each line: what came, and what the hub answered. The table and the posted list are shown where they changed."
 echo
 paste -d '\t' examples/evening.steps "$answers" | awk -F '\t' -v texts="$texts" '

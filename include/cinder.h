@@ -1,6 +1,6 @@
 /*
  * Packets, lists and the hub for firmware: the readers of the display, the calls of the
- * hub, the writers, lists as text, and settings. Link with libcinder.a.
+ * hub, the writers, lists as text, settings, and lines as they arrive. Link with libcinder.a.
  *
  * Every call answers for every content of its areas. The caller answers for one thing:
  * each area is there, is as long as its length says, and, if the call writes to it,
@@ -382,6 +382,67 @@ typedef struct {
  * For 33 list and offset are 0.
  */
 cinder_setting_result cinder_setting_find(const uint8_t *guest, size_t guest_len, const uint8_t *house, size_t house_len, const uint8_t *key, size_t key_len);
+
+/* The length of a line area: no other is a line state. */
+#define CINDER_LINE_ROOM 259
+
+/*
+ * The line state of a socket is an area of the caller's, which cinder_line_push reads and
+ * changes. It says what has come on that line and is not decided yet:
+ *
+ *     0        phase: 0 fresh, 1 skipping to the next 00, 2 behind a 00 whose length byte
+ *              has not come, 3 inside an encoded part
+ *     1        number of encoded bytes held
+ *     2        00
+ *     3        length byte L
+ *     4 to 258 the encoded bytes held, zeros behind them
+ *
+ * CINDER_LINE_ROOM zeros are a fresh line. An area is a line state if it has that length
+ * and, in phases 0 to 2, zeros in all other bytes; in phase 3, L from 4 up, fewer than L
+ * bytes held, none of them 00, and zeros in all other bytes. Each of these is the
+ * state of some line, and no other is.
+ */
+
+typedef struct {
+    uint64_t found, error, consumed;
+} cinder_line_result;
+
+/*
+ * Takes a scrap of a socket's line: `bytes` as they arrived, any number, also none. Bytes
+ * are taken up to the one that decides a finding, and consumed counts them. The rest is
+ * handed in again with the next call. However a line is cut into scraps, the findings and
+ * the line state at its end are the same.
+ *
+ * found says what was found:
+ *
+ *    0  nothing: more is wanted. The whole scrap is taken, and error is 0
+ *    1  a good packet, at its last byte; error is 0. Its L + 2 bytes (00, L, encoded part)
+ *       stand at the front of `packet`, ready for cinder_hub_receive. Nothing behind them
+ *       has changed
+ *    2  a refusal: error is its number
+ *
+ * Unless found is 1, `packet` is as it was. `line` follows the bytes taken, so that it
+ * is a line state again. Bytes are refused as follows; behind the number stands what the
+ * line then does:
+ *
+ *    2  a byte that is not 00, on a fresh line: skips. So one stretch of such bytes, at the
+ *       start of a line or behind a good packet, is refused once
+ *    3  a length byte that is 00: this 00 starts a packet
+ *    3  a length byte of 1 to 3: skips
+ *    4  a 00 inside an encoded part: this 00 starts a packet
+ *    5 to 8  the last encoded byte, as cinder_packet_decode gives them: skips
+ *
+ * A line that skips takes bytes that are not 00 without a finding. Behind a good packet it
+ * is fresh. Error 1 is not given here: it is "more is wanted".
+ *
+ * Before any byte is taken, these are judged in this order, and for an empty scrap too:
+ *
+ *   20  packet_len is below CINDER_PACKET_ROOM
+ *    9  `line` is not a line state
+ *
+ * For both found is 2, consumed is 0, and all areas are as they were.
+ */
+cinder_line_result cinder_line_push(uint8_t *line, size_t line_len, const uint8_t *bytes, size_t bytes_len, uint8_t *packet, size_t packet_len);
 
 #ifdef __cplusplus
 }

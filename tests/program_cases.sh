@@ -1,4 +1,4 @@
-# What run_cases.sh and show_cases.sh share; they source this file after they have set `name`, the program's name, and `program`, its path.
+# What run_cases.sh, show_cases.sh and line_cases.sh share; they source this file after they have set `name`, the program's name, and `program`, its path.
 room=$(mktemp -d)
 trap 'rm -rf "$room"' EXIT
 failed=0

@@ -4,7 +4,8 @@ use std::env;
 use std::path::{Path, PathBuf};
 use std::process::Command;
 
-const SOURCES: [&str; 4] = ["list_reader", "packet_reader", "packet_writer", "tuned_list_reader"];
+const SOURCES: [&str; 5] =
+    ["line_machine", "list_reader", "packet_reader", "packet_writer", "tuned_list_reader"];
 const FLAGS: [&str; 5] = ["-O2", "-std=c11", "-Wall", "-Wextra", "-Werror"];
 
 fn run(command: &mut Command) {

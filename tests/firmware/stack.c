@@ -31,6 +31,7 @@ enum call {
     TEXT_ENCODE,
     TEXT_DECODE,
     SETTING_FIND,
+    LINE_PUSH,
     CALLS
 };
 
@@ -38,7 +39,8 @@ static const char *const call_names[CALLS] = {
     "cinder_packet_decode", "cinder_list_decode", "cinder_stream_next",
     "cinder_hub_receive",   "cinder_hub_detach",  "cinder_hub_publish",
     "cinder_hub_read",      "cinder_packet_encode", "cinder_list_encode",
-    "cinder_text_encode",   "cinder_text_decode", "cinder_setting_find"};
+    "cinder_text_encode",   "cinder_text_decode", "cinder_setting_find",
+    "cinder_line_push"};
 
 struct deepest {
     size_t bytes;
@@ -52,7 +54,7 @@ static struct deepest deepest[CALLS];
 /* The call to make; a context's function takes no pointers. */
 static struct {
     enum call call;
-    /* What is read: bytes, a payload, rows, a text or the guest's list. */
+    /* What is read: bytes, a payload, rows, a text, the guest's list or a scrap. */
     const uint8_t *bytes;
     size_t length;
     /* The offset, the type, or the socket. */
@@ -67,6 +69,7 @@ static struct {
     size_t house_length;
     const uint8_t *key;
     size_t key_length;
+    uint8_t line[CINDER_LINE_ROOM];
     size_t first_room;
     size_t store_room;
     cinder_list_result answer;
@@ -141,10 +144,17 @@ static void make_call(void)
                                                 given.first_room, store, given.store_room)
                                  .error;
         break;
-    default:
+    case SETTING_FIND:
         given.answer.error = cinder_setting_find(given.bytes, given.length, given.house,
                                                  given.house_length, given.key, given.key_length)
                                  .error;
+        break;
+    default: {
+        cinder_line_result pushed = cinder_line_push(given.line, sizeof given.line, given.bytes,
+                                                     given.length, first, given.first_room);
+        given.answer.error = pushed.error;
+        given.answer.consumed = pushed.consumed;
+    }
     }
 }
 
@@ -184,6 +194,30 @@ static void packet(const uint8_t *bytes, size_t length, size_t room, const char 
     given.length = length;
     given.first_room = room;
     measure(input);
+}
+
+/* Hands a scrap in until it is taken, once if it is empty. */
+static void scrap(const uint8_t *bytes, size_t length, const char *input)
+{
+    given.call = LINE_PUSH;
+    given.first_room = CINDER_PACKET_ROOM;
+    given.bytes = bytes;
+    given.length = length;
+    do {
+        measure(input);
+        given.bytes += given.answer.consumed;
+        given.length -= given.answer.consumed;
+    } while (given.length > 0 && given.answer.consumed > 0);
+}
+
+/* A line in two scraps, an empty one between them. */
+static void line(const uint8_t *bytes, size_t length, size_t cut, const char *input)
+{
+    memset(given.line, 0, sizeof given.line);
+    scrap(bytes, cut, input);
+    scrap(NULL, 0, "empty scrap");
+    check(given.answer.error == 0, "line", "empty scrap");
+    scrap(bytes + cut, length - cut, input);
 }
 
 /* Both writers of a list. The text is written last, so that it stands in the area. */
@@ -319,6 +353,8 @@ static void too_small(void)
 {
     static const uint8_t ping[] = {0x00, 0x04, 0x02, 0x01, 0x02, 0x01};
     packet(ping, sizeof ping, CINDER_PACKET_ROOM - 1, "buffer too small");
+    given.call = LINE_PUSH;
+    measure("buffer too small");
     given.first_room = CINDER_ROWS_ROOM - 1;
     given.store_room = CINDER_STORE_ROOM;
     given.call = LIST_DECODE;
@@ -497,14 +533,18 @@ static void all_packets(void)
             for (size_t at = 0; at < length; at++)
                 payload[at] = type % 2 == 0 ? 0 : (uint8_t)(at % 5);
             size_t size = packet_with(type, payload, length, bytes);
-            for (size_t there = 0; there <= size; there++)
+            for (size_t there = 0; there <= size; there++) {
                 packet(bytes, there, CINDER_PACKET_ROOM, "packet");
+                line(bytes, size, there, "packet");
+            }
             for (size_t at = 0; at < size; at++) {
                 uint8_t old = bytes[at];
                 bytes[at] ^= 1;
                 packet(bytes, size, CINDER_PACKET_ROOM, "packet with a byte changed");
+                line(bytes, size, size - at, "packet with a byte changed");
                 bytes[at] = 0;
                 packet(bytes, size, CINDER_PACKET_ROOM, "packet with a byte 0");
+                line(bytes, size, size - at, "packet with a byte 0");
                 bytes[at] = old;
             }
             given.call = PACKET_ENCODE;
@@ -518,6 +558,21 @@ static void all_packets(void)
             given.first_room = CINDER_PACKET_ROOM - 1;
             measure("buffer too small");
         }
+}
+
+/* Noise, many 00s, and areas that are no line state. */
+static void all_noise(void)
+{
+    static uint8_t bytes[BYTES_ROOM];
+    line(bytes, 100, 50, "many 00s");
+    memset(bytes, 7, sizeof bytes);
+    line(bytes, sizeof bytes, 1, "noise");
+    for (size_t at = 0; at < CINDER_LINE_ROOM; at++) {
+        memset(given.line, 0, sizeof given.line);
+        given.line[at] = 0xff;
+        scrap(bytes, 1, "no line state");
+        check(given.answer.error == 9, "line", "no line state");
+    }
 }
 
 enum { TABLES = 4, TYPES = 32, PARAMETERS = 32 };
@@ -656,6 +711,7 @@ int main(void)
 {
     too_small();
     all_packets();
+    all_noise();
     all_lists();
     all_settings();
     deep_rows();

@@ -94,10 +94,10 @@ END {
         if (frame[name] > 0)
             printf "%-28s %8d%s\n", name, frame[name] + below_pointer[name], (name in itself) ? " nine times" : ""
     printf "%-28s %8s\n", "call", "at most"
-    split("list_decode stream_next hub_receive hub_read text_decode setting_find", with_arguments, " ")
+    split("list_decode stream_next hub_receive hub_read text_decode setting_find line_push", with_arguments, " ")
     for (at in with_arguments) arguments["cinder_" with_arguments[at]] = 16
     count = split("packet_decode list_decode stream_next hub_receive hub_detach hub_publish hub_read " \
-                  "packet_encode list_encode text_encode text_decode setting_find", public, " ")
+                  "packet_encode list_encode text_encode text_decode setting_find line_push", public, " ")
     for (at = 1; at <= count; at++) {
         name = "cinder_" public[at]
         if (name in frame)

@@ -5,3 +5,4 @@ pub mod WriteCall
 pub mod HubCall
 pub mod TextCall
 pub mod SettingCall
+pub mod LineCall

@@ -1,5 +1,6 @@
 // The calls that firmware makes from C: the hub's, and the display's. include/cinder.h declares them.
 mod hub_call;
+mod line_call;
 mod list_call;
 mod packet_call;
 mod setting_call;
@@ -12,6 +13,8 @@ pub use hub_call::cinder_hub_detach;
 pub use hub_call::cinder_hub_publish;
 pub use hub_call::cinder_hub_read;
 pub use hub_call::cinder_hub_receive;
+pub use line_call::LineResult;
+pub use line_call::cinder_line_push;
 pub use list_call::ListResult;
 pub use list_call::cinder_list_decode;
 pub use packet_call::PacketResult;

@@ -13,6 +13,11 @@ pub receive-size : (s : List ℕ) → getD s 0 0 ≡ 1 → 4 ≤ recordSize s
 unfolding recordSize
 receive-size s e = rw e (omega arith)
 
+-- and so has a line's record
+pub line-size : (s : List ℕ) → getD s 0 0 ≡ 7 → 4 ≤ recordSize s
+unfolding recordSize
+line-size s e = rw e (omega arith)
+
 -- a whole record that loads a table has the table behind its first byte
 pub load-table : (s : List ℕ) → getD s 0 0 ≡ 5 → recordSize s ≤ length s → 1 + tableSize slotCount ≤ length s
 unfolding recordSize

@@ -1,4 +1,6 @@
-// Replays captured packets and other calls against one hub: records from standard input, a line of output for each.
+// Replays captured packets, lines as they arrived and other calls against one hub: records from standard input, a line of output for each,
+// and for a line one for each finding.
+mod arrival;
 mod play;
 mod record;
 mod value_line;

@@ -1,6 +1,9 @@
-// The records are played one after the other against one table.
+// The records are played one after the other against one table and the lines of its sockets.
+use super::arrival;
+use super::arrival::LINES_ROOM;
 use super::record;
 use super::record::DETACH;
+use super::record::LINE;
 use super::record::LOAD;
 use super::record::PUBLISH;
 use super::record::READ;
@@ -8,34 +11,16 @@ use super::record::RECEIVE;
 use super::value_line;
 use hub::Answer;
 use hub::Published;
-use hub::Receipt;
 use hub::TABLE_BYTES;
 use list::LIST_LIMIT;
 use output::LIST_LINE_ROOM;
 ghost use mathlib.Core.Path.{_≡_};
+ghost use lib.ListN.{length};
 ghost use Rattle.replay.specs.Record.{recordSize, Whole};
+ghost use Rattle.replay.specs.Lines.{linesRoom};
 
 // Output is collected, and written when less room is left than a line may take.
 const OUTPUT_ROOM: usize = 4 * LIST_LINE_ROOM;
-
-fn put_receipt(out: &mut [u8], used: usize, a: Receipt) -> usize {
-    match a {
-        Receipt::Accepted(n) => output::put_line(out, used, b"took ", n as u64),
-        Receipt::Refused(error) => output::put_line(out, used, b"refused ", error as u64),
-    }
-}
-
-fn receive(
-    catalogue: &[u8],
-    table: &mut [u8],
-    socket: u8,
-    packet: &[u8],
-    out: &mut [u8],
-    used: usize,
-) -> usize {
-    let a = hub::receive(catalogue, table, socket as u64, packet);
-    put_receipt(out, used, a)
-}
 
 fn put_detached(out: &mut [u8], used: usize, a: Answer) -> usize {
     match a {
@@ -92,33 +77,22 @@ fn show_table(table: &[u8], out: &mut [u8], used: usize) -> usize {
 fn play(
     catalogue: &[u8],
     table: &mut [u8],
+    lines: &mut [u8],
     s: &[u8],
     size: usize,
     out: &mut [u8],
     used: usize,
 ) -> usize
-    requires { ⌜ (size ≡ recordSize (now s)) × Whole (now s) ⌝ }
+    requires { ⌜ (size ≡ recordSize (now s)) × Whole (now s) × (length (now lines) ≡ linesRoom) ⌝ }
 {
+    let socket = wire::byte_at(s, 1);
     match wire::byte_at(s, 0) {
-        RECEIVE => receive(
-            catalogue,
-            table,
-            wire::byte_at(s, 1),
-            &s[4..size],
-            out,
-            used,
-        ),
-        DETACH => detach(catalogue, table, wire::byte_at(s, 1), out, used),
+        RECEIVE => arrival::receive(catalogue, table, socket, &s[4..size], out, used),
+        DETACH => detach(catalogue, table, socket, out, used),
         PUBLISH => publish(catalogue, &*table, out, used),
-        READ => read(
-            catalogue,
-            &*table,
-            wire::byte_at(s, 1),
-            wire::byte_at(s, 2),
-            out,
-            used,
-        ),
+        READ => read(catalogue, &*table, socket, wire::byte_at(s, 2), out, used),
         LOAD => load(table, &s[1..size], out, used),
+        LINE => arrival::feed(catalogue, table, lines, socket, &s[4..size], out, used),
         _ => show_table(&*table, out, used),
     }
 }
@@ -127,13 +101,22 @@ fn play(
 fn play_all(catalogue: &[u8], records: &[u8], out: &mut [u8]) {
     let mut used: usize = 0;
     let mut table = [0u8; TABLE_BYTES];
+    let mut lines = [0u8; LINES_ROOM];
     let mut at: usize = 0;
     let mut k: usize = 1;
     while at < records.len() {
         used = output::flush_if_full(&*out, used);
         if record::is_good(&records[at..]) {
             let size = record::size_of(&records[at..]);
-            used = play(catalogue, &mut table, &records[at..], size, &mut *out, used);
+            used = play(
+                catalogue,
+                &mut table,
+                &mut lines,
+                &records[at..],
+                size,
+                &mut *out,
+                used,
+            );
             at += size;
             k += 1;
         } else {

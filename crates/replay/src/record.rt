@@ -21,6 +21,8 @@ pub const LOAD: u8 = 5;
 
 pub const SHOW: u8 = 6;
 
+pub const LINE: u8 = 7;
+
 // The bytes of the record that these bytes start with, 0 where its number is unknown.
 pub fn size_of(s: &[u8]) -> usize
     ensures { λ r. ⌜ r ≡ recordSize (now (s .entry)) ⌝ }
@@ -32,6 +34,7 @@ pub fn size_of(s: &[u8]) -> usize
         READ => 3,
         LOAD => 1 + TABLE_BYTES,
         SHOW => 1,
+        LINE => 4 + numbers::u16_at(s, 2) as usize,
         _ => 0,
     }
 }

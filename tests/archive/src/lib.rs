@@ -8,7 +8,11 @@ pub use hub::{hub_detach, hub_publish, hub_read, hub_receive};
 pub use list::list_decode;
 #[cfg(feature = "packet")]
 pub use packet::packet_decode;
-pub use results::{ListResult, PacketResult, SettingResult, TextResult, ValueResult, WriteResult};
+#[cfg(feature = "push")]
+pub use push::line_push;
+pub use results::{
+    LinePushed, ListResult, PacketResult, SettingResult, TextResult, ValueResult, WriteResult,
+};
 #[cfg(feature = "setting")]
 pub use setting::setting_find;
 #[cfg(feature = "stream")]
@@ -63,6 +67,15 @@ mod results {
         pub list: u64,
         pub offset: u64,
         pub length: u64,
+    }
+
+    /// `cinder_line_result`.
+    #[repr(C)]
+    #[derive(Clone, Copy, PartialEq, Eq, Debug)]
+    pub struct LinePushed {
+        pub found: u64,
+        pub error: u64,
+        pub consumed: u64,
     }
 
     /// `cinder_value_result`.
@@ -403,6 +416,37 @@ mod setting {
                 house.len(),
                 key.as_ptr(),
                 key.len(),
+            )
+        }
+    }
+}
+
+#[cfg(feature = "push")]
+mod push {
+    use super::LinePushed;
+
+    extern "C" {
+        fn cinder_line_push(
+            line: *mut u8,
+            line_len: usize,
+            bytes: *const u8,
+            bytes_len: usize,
+            packet: *mut u8,
+            packet_len: usize,
+        ) -> LinePushed;
+    }
+
+    #[inline]
+    pub fn line_push(line: &mut [u8], bytes: &[u8], packet: &mut [u8]) -> LinePushed {
+        // SAFETY: each pointer and length come from one slice.
+        unsafe {
+            cinder_line_push(
+                line.as_mut_ptr(),
+                line.len(),
+                bytes.as_ptr(),
+                bytes.len(),
+                packet.as_mut_ptr(),
+                packet.len(),
             )
         }
     }

@@ -21,6 +21,10 @@ cinder_list_result plain_stream_next(const uint8_t *bytes, size_t bytes_len, uin
 cinder_write_result plain_packet_encode(uint64_t type, const uint8_t *payload, size_t payload_len,
                                         uint8_t *packet, size_t packet_len);
 
+cinder_line_result plain_line_push(uint8_t *line, size_t line_len,
+                                   const uint8_t *bytes, size_t bytes_len,
+                                   uint8_t *packet, size_t packet_len);
+
 /* The list calls once more, tuned by hand. */
 cinder_list_result tuned_list_decode(const uint8_t *bytes, size_t bytes_len,
                                      uint8_t *rows, size_t rows_len,

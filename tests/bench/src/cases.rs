@@ -1,7 +1,11 @@
 //! What is measured: the sides, and the cases of each kind.
 
+#[cfg(feature = "push")]
+use crate::budget;
 #[cfg(feature = "hub")]
 use crate::hub;
+#[cfg(feature = "push")]
+use crate::lines;
 #[cfg(any(feature = "packet", feature = "list", feature = "stream"))]
 use crate::readers;
 #[cfg(feature = "setting")]
@@ -77,5 +81,15 @@ pub fn all() -> Vec<Box<dyn Case>> {
     cases.extend(texts::all());
     #[cfg(feature = "setting")]
     cases.extend(settings::all());
+    #[cfg(feature = "push")]
+    cases.extend(lines::all());
     cases
+}
+
+/// The cases of the tables that have other columns.
+pub fn of_other_tables() -> Vec<Box<dyn Case>> {
+    #[cfg(feature = "push")]
+    return budget::all();
+    #[cfg(not(feature = "push"))]
+    Vec::new()
 }

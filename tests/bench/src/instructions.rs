@@ -2,7 +2,8 @@
 
 use crate::cases::Case;
 use crate::programs::{self, Input};
-use second_reader::generate::{list, replay, text};
+use second_reader::generate::{line, list, replay, text};
+use second_reader::line::{line_output, LINE_LIMIT};
 use second_reader::list::LIST_LIMIT;
 use second_reader::random::Random;
 use second_reader::replay::replay_output;
@@ -52,6 +53,7 @@ pub fn as_program(name: &str) -> ExitCode {
         "run" => print!("{}", run_output(&input)),
         "replay" => print!("{}", replay_output(&input)),
         "show" => print!("{}", show_output(&input)),
+        "line" => print!("{}", line_output(&input)),
         _ => return ExitCode::from(2),
     }
     ExitCode::SUCCESS
@@ -72,7 +74,13 @@ pub fn of_programs() {
     }
     of_program("run", &lists, &[]);
     of_program("replay", &script, &[3, 0, 0, 0, 0]);
+    let mut arrived = Vec::new();
+    while arrived.len() < LINE_LIMIT {
+        arrived.extend(line::any(&mut random));
+    }
+    arrived.truncate(LINE_LIMIT);
     of_program("show", &shown, &[]);
+    of_program("line", &arrived, &[]);
 }
 
 fn of_program(name: &str, long: &[u8], short: &[u8]) {

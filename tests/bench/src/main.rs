@@ -1,13 +1,14 @@
-//! Measures the archive's calls against the second reader, and the readers and the writer of
-//! packets also against calls in C, plain and tuned by hand, on the same inputs in one run:
-//! time for each call, then instructions for each call as callgrind counts them. For a
-//! stream, a call is the reading of all of it. Buffers are not cleared between calls.
+//! Measures the archive's calls against the second reader, and the readers, the writer of
+//! packets and lines also against calls in C, plain and tuned by hand, on the same inputs in
+//! one run: time for each call, then instructions for each call as callgrind counts them. For
+//! a stream, a call is the reading of all of it, and for a line the taking of all its scraps.
+//! Buffers are not cleared between calls.
 //!
 //!   bench                            all cases
 //!   bench --no-instructions          time only
 //!   bench --one CASE SIDE TIMES      just those calls, for callgrind; SIDE is reader,
 //!                                    plain, tuned or archive
-//!   bench --as run|replay|show       the second reader as that program
+//!   bench --as run|replay|show|line  the second reader as that program
 
 #[cfg(not(any(
     feature = "packet",
@@ -16,21 +17,32 @@
     feature = "hub",
     feature = "writers",
     feature = "text",
-    feature = "setting"
+    feature = "setting",
+    feature = "push"
 )))]
 compile_error!(
-    "name the calls to measure: --features packet, list, stream, hub, writers, text, setting"
+    "name the calls to measure: --features packet, list, stream, hub, writers, text, setting, push"
 );
 
+#[cfg(feature = "push")]
+mod budget;
 mod cases;
 #[cfg(feature = "hub")]
 mod hub;
 mod instructions;
+#[cfg(feature = "push")]
+mod lines;
 #[cfg(any(feature = "list", feature = "stream"))]
 mod lists;
-#[cfg(any(feature = "packet", feature = "hub", feature = "writers"))]
+#[cfg(any(feature = "packet", feature = "hub", feature = "writers", feature = "push"))]
 mod packets;
-#[cfg(any(feature = "packet", feature = "list", feature = "stream", feature = "writers"))]
+#[cfg(any(
+    feature = "packet",
+    feature = "list",
+    feature = "stream",
+    feature = "writers",
+    feature = "push"
+))]
 mod plain;
 mod programs;
 #[cfg(any(feature = "packet", feature = "list", feature = "stream"))]
@@ -76,11 +88,15 @@ fn table(with_instructions: bool) -> ExitCode {
         let numbers = time(case.as_mut());
         line(case.as_ref(), Ok(numbers));
     }
+    #[cfg(feature = "push")]
+    budget::table("ns", |case| Ok(time(case)));
     if with_instructions {
         headings("ins");
         for case in &cases {
             line(case.as_ref(), instructions::of_case(case.as_ref()));
         }
+        #[cfg(feature = "push")]
+        budget::table("ins", |case| instructions::of_case(case));
         instructions::of_programs();
     }
     ExitCode::SUCCESS
@@ -149,7 +165,8 @@ fn sample(case: &mut dyn Case, side: Side, calls: u64) -> f64 {
 
 /// Calls one side of one case, inside a function that callgrind finds by its name.
 fn one(name: &str, side: &str, times: &str) -> ExitCode {
-    let case = cases::all().into_iter().find(|case| case.name() == name);
+    let mut cases = cases::all().into_iter().chain(cases::of_other_tables());
+    let case = cases.find(|case| case.name() == name);
     let side = Side::named(side);
     match (case, side, times.parse()) {
         (Some(mut case), Some(side), Ok(times)) if case.sides().contains(&side) => {

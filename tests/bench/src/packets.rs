@@ -1,8 +1,8 @@
-//! The packets that are measured, read alone, received or written.
+//! The packets that are measured, read alone, received, written or taken from a line.
 
 use second_reader::packet;
 
-#[cfg(any(feature = "packet", feature = "hub"))]
+#[cfg(any(feature = "packet", feature = "hub", feature = "push"))]
 pub fn packet_of(packet_type: u8, payload: &[u8]) -> Vec<u8> {
     let mut buffer = [0; packet::PACKET_ROOM];
     let length = packet::encode(packet_type.into(), payload, &mut buffer).expect("a good packet");
@@ -10,7 +10,7 @@ pub fn packet_of(packet_type: u8, payload: &[u8]) -> Vec<u8> {
 }
 
 /// The name of a case, and its message's type and payload.
-#[cfg(any(feature = "packet", feature = "writers"))]
+#[cfg(any(feature = "packet", feature = "writers", feature = "push"))]
 pub struct Message {
     pub name: &'static str,
     pub packet_type: u8,
@@ -18,7 +18,7 @@ pub struct Message {
 }
 
 /// Messages of each type; those called full have the longest payload of theirs.
-#[cfg(any(feature = "packet", feature = "writers"))]
+#[cfg(any(feature = "packet", feature = "writers", feature = "push"))]
 pub fn all() -> Vec<Message> {
     let of = |name, packet_type, payload| Message { name, packet_type, payload };
     let mixed: Vec<u8> = (0..251).map(|at: u8| at % 5).collect();
@@ -34,7 +34,7 @@ pub fn all() -> Vec<Message> {
 }
 
 /// All 32 parameters, each a number below 2^20, so that most of its bytes are zeros.
-#[cfg(any(feature = "packet", feature = "writers"))]
+#[cfg(any(feature = "packet", feature = "writers", feature = "push"))]
 fn whole_numbers() -> Vec<u8> {
     let values = (0..32_u32).map(|at| 200 << (at % 3 * 6));
     std::iter::once(u32::MAX).chain(values).flat_map(u32::to_le_bytes).collect()

@@ -40,6 +40,32 @@ pub fn packet_encode(packet_type: u64, payload: &[u8], packet: &mut [u8]) -> arc
     }
 }
 
+#[cfg(feature = "push")]
+#[inline]
+pub fn line_push(line: &mut [u8], bytes: &[u8], packet: &mut [u8]) -> archive::LinePushed {
+    extern "C" {
+        fn plain_line_push(
+            line: *mut u8,
+            line_len: usize,
+            bytes: *const u8,
+            bytes_len: usize,
+            packet: *mut u8,
+            packet_len: usize,
+        ) -> archive::LinePushed;
+    }
+    // SAFETY: each pointer and length come from one slice.
+    unsafe {
+        plain_line_push(
+            line.as_mut_ptr(),
+            line.len(),
+            bytes.as_ptr(),
+            bytes.len(),
+            packet.as_mut_ptr(),
+            packet.len(),
+        )
+    }
+}
+
 /// The function $name for the C function $c_name; $offset is there if the call has one.
 #[cfg(any(feature = "list", feature = "stream"))]
 macro_rules! list_call {

@@ -9,7 +9,7 @@ use crate::Error;
 
 fn table_of(catalogue: &[u8], bytes: &[u8]) -> Result<Table, Error> {
     Catalogue::parse(catalogue)?;
-    Table::from_bytes(bytes).ok_or(Error::TableNotLawful)
+    Table::from_bytes(bytes).ok_or(Error::NotLawful)
 }
 
 /// Makes a call on the table that the bytes are, and leaves there the table it left.

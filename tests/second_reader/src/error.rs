@@ -12,7 +12,7 @@ pub enum Error {
     PayloadLength = 6,
     Checksum = 7,
     PacketType = 8,
-    TableNotLawful = 9,
+    NotLawful = 9,
     Socket = 10,
     Catalogue = 11,
     DeviceTypeUnknown = 12,

@@ -14,7 +14,7 @@ pub const MAP_BYTES: usize = 4;
 fn judge_table<'a>(catalogue: &'a [u8], table: &Table) -> Result<Catalogue<'a>, Error> {
     let catalogue = Catalogue::parse(catalogue)?;
     if !table.lawful(&catalogue) {
-        return Err(Error::TableNotLawful);
+        return Err(Error::NotLawful);
     }
     Ok(catalogue)
 }
@@ -83,7 +83,7 @@ fn take_data(
     let at = table.slot_of(socket).ok_or(Error::NoDevice)?;
     let slot = &mut table.slots[at];
     // A lawful table has only types of the catalogue.
-    let device = catalogue.device(slot.device_type).ok_or(Error::TableNotLawful)?;
+    let device = catalogue.device(slot.device_type).ok_or(Error::NotLawful)?;
     let (map, values) = payload.split_at(MAP_BYTES);
     let map = u32::from_le_bytes(map.try_into().unwrap());
     let year = slot.year;

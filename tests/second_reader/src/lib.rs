@@ -1,11 +1,11 @@
-//! Packets, lists and the hub as document 01, the tickets in 02 and the readings of their
+//! Packets, lists, lines and the hub as document 01, the tickets in 02 and the readings of their
 //! open points describe them, written without looking at the product, to compare it with.
 //!
 //! Every call judges its whole input first and then fills the lent buffers, so an
-//! error leaves them as they were. No call allocates, apart from those that answer
+//! error leaves them as they were, but for the state of a line. No call allocates, apart from those that answer
 //! a program's output as text. The module `definition` says the same once more in the
 //! paper's own words, with no regard to speed. `generate` makes inputs for the comparison;
-//! `widths` and `lookups` tell what they show.
+//! `widths`, `lookups` and `scraps` tell what they show.
 
 pub mod calls;
 pub mod catalogue;
@@ -13,11 +13,13 @@ pub mod definition;
 pub mod error;
 pub mod generate;
 pub mod hub;
+pub mod line;
 pub mod list;
 pub mod lookups;
 pub mod packet;
 pub mod random;
 pub mod replay;
+pub mod scraps;
 pub mod setting;
 pub mod stream;
 pub mod table;

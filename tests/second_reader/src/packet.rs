@@ -10,9 +10,10 @@ use crate::Error;
 pub const PACKET_ROOM: usize = 257;
 /// The longest payload: 254 message bytes less type, payload length and checksum.
 pub const PAYLOAD_LIMIT: usize = 251;
-const HEADER: usize = 2;
+/// 00 and the length byte.
+pub const HEADER: usize = 2;
 /// The encoded part of an empty payload: code, type, payload length, checksum.
-const ENCODED_LOWEST: usize = 4;
+pub const ENCODED_LOWEST: usize = 4;
 
 pub const PING: u8 = 1;
 pub const ACK: u8 = 2;
@@ -69,7 +70,7 @@ fn judge(bytes: &[u8]) -> Result<&[u8], Error> {
 }
 
 /// Judges blocks, payload length, checksum and type of an encoded part without zeros.
-fn judge_message(encoded: &[u8]) -> Result<(), Error> {
+pub fn judge_message(encoded: &[u8]) -> Result<(), Error> {
     let mut codes = 0;
     let mut at = 0;
     while at < encoded.len() {

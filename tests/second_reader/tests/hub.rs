@@ -162,7 +162,7 @@ fn order_of_receiving() {
         answer
     };
     assert_eq!(receive_into(&[], spoiled, 8, &[]), Err(Error::Catalogue));
-    assert_eq!(receive_into(&CATALOGUE, spoiled, 8, &[]), Err(Error::TableNotLawful));
+    assert_eq!(receive_into(&CATALOGUE, spoiled, 8, &[]), Err(Error::NotLawful));
     let empty = Table::default();
     assert_eq!(receive_into(&CATALOGUE, empty, 8, &[]), Err(Error::Socket));
     assert_eq!(receive_into(&CATALOGUE, empty, 7, &[]), Err(Error::PacketIncomplete));
@@ -485,13 +485,13 @@ fn order_of_the_other_calls() {
     let mut short = [0xa5; LIST_LIMIT - 1];
     let empty = Table::default();
     assert_eq!(detach(&[], &mut spoiled, 8), Err(Error::Catalogue));
-    assert_eq!(detach(&CATALOGUE, &mut spoiled, 8), Err(Error::TableNotLawful));
+    assert_eq!(detach(&CATALOGUE, &mut spoiled, 8), Err(Error::NotLawful));
     assert_eq!(publish(&[], &spoiled, &mut short), Err(Error::Catalogue));
-    assert_eq!(publish(&CATALOGUE, &spoiled, &mut short), Err(Error::TableNotLawful));
+    assert_eq!(publish(&CATALOGUE, &spoiled, &mut short), Err(Error::NotLawful));
     assert_eq!(publish(&CATALOGUE, &empty, &mut short), Err(Error::BufferTooSmall));
     assert_eq!(short, [0xa5; LIST_LIMIT - 1]);
     assert_eq!(read_parameter(&[], &spoiled, 8, 0), Err(Error::Catalogue));
-    assert_eq!(read_parameter(&CATALOGUE, &spoiled, 8, 0), Err(Error::TableNotLawful));
+    assert_eq!(read_parameter(&CATALOGUE, &spoiled, 8, 0), Err(Error::NotLawful));
     assert_eq!(read_parameter(&CATALOGUE, &empty, 8, 0), Err(Error::Socket));
     assert_eq!(read_parameter(&CATALOGUE, &empty, 7, 99), Err(Error::NoDevice));
 }

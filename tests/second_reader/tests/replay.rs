@@ -4,6 +4,7 @@ use second_reader::generate::{packet as generate_packet, replay as generate};
 use second_reader::packet::DEVICE_DATA;
 use second_reader::random::Random;
 use second_reader::replay::{replay_output, replay_watched};
+use second_reader::scraps::{in_replay, InReplay};
 use second_reader::widths::{Shown, Widths};
 use std::collections::BTreeMap;
 use std::path::{Path, PathBuf};
@@ -90,6 +91,74 @@ fn values_by_kind() {
     assert_eq!(printed, "took 16\ntook 19\nint -2\nfloat ff800001\nflag 0\n");
 }
 
+/// A record with a scrap of a socket's line.
+fn line_record(socket: u8, scrap: &[u8]) -> Vec<u8> {
+    [&[7, socket, scrap.len() as u8, 0], scrap].concat()
+}
+
+/// A line for each finding, and for a packet what a record 01 with it would print.
+#[test]
+fn lines_as_they_arrive() {
+    let (ack, data) = (&ACK_RECORD[4..], &DATA_RECORD[4..]);
+    let whole = line_record(3, &[ack, data, &[9, 9], ack].concat());
+    assert_eq!(output(&[&whole]), "took 16\ntook 15\nline refused 2\ntook 16\n");
+    let ping = [0x00, 0x04, 0x02, 0x01, 0x02, 0x01];
+    let findings = [&[7, 0, 0, 3][..], &ping[..4], &ping, &[1], &[0, 4, 2, 1, 2, 2, 9]].concat();
+    assert_eq!(
+        output(&[&line_record(0, &findings)]),
+        "line refused 2\nline refused 3\nline refused 3\nline refused 4\nrefused 19\n\
+         line refused 2\nline refused 7\n"
+    );
+    assert_eq!(output(&[&line_record(0, data), &line_record(0, &[])]), "refused 15\n");
+    // A bad record is counted by records, not by lines.
+    assert_eq!(
+        output(&[&line_record(0, &[]), &line_record(0, &[1, 0, 0]), &[9]]),
+        "line refused 2\nline refused 3\nbad record 3\n"
+    );
+}
+
+/// Each socket has a line of its own, which no other record touches.
+#[test]
+fn lines_apart() {
+    let ack = &ACK_RECORD[4..];
+    let (front, rest) = ack.split_at(7);
+    let (first, last) = (line_record(3, front), line_record(3, rest));
+    for (between, printed) in [
+        (&[2, 3][..], "left\n"),
+        (&ACK_RECORD, "took 16\n"),
+        (&DATA_RECORD, "took 15\n"),
+        (&loading(&[]), "loaded\n"),
+        (&line_record(4, &[9]), "line refused 2\n"),
+        (&line_record(4, &ack[..5]), ""),
+        (&line_record(3, &[]), ""),
+        (&[4, 3, 1], "absent\n"),
+    ] {
+        let found = output(&[&ACK_RECORD, &first, between, &last]);
+        assert_eq!(found, format!("took 16\n{printed}took 16\n"), "{between:?}");
+    }
+    let other = line_record(4, &ack[7..]);
+    let printed = "took 16\nrefused 14\n";
+    assert_eq!(output(&[&first, &line_record(4, front), &last, &other]), printed);
+}
+
+/// 10 comes before all that the hub judges, once, and for no bytes too.
+#[test]
+fn no_such_line() {
+    let unlawful = loading(&[0, 0, 0, 1]);
+    for socket in [8, 9, 255] {
+        for scrap in [&[][..], &[1], &[0, 0, 0], &ACK_RECORD[4..]] {
+            let record = line_record(socket, scrap);
+            assert_eq!(output(&[&record, &record]), "refused 10\nrefused 10\n");
+            assert_eq!(output(&[&unlawful, &record]), "loaded\nrefused 10\n");
+            assert_eq!(replay_output(&[&[1, 0, 9][..], &record].concat()), "refused 10\n");
+        }
+    }
+    let record = line_record(7, &[1, 0, 4, 2, 1, 2, 1]);
+    assert_eq!(output(&[&unlawful, &record]), "loaded\nline refused 2\nrefused 9\n");
+    let printed = "line refused 2\nrefused 11\n";
+    assert_eq!(replay_output(&[&[1, 0, 9][..], &record].concat()), printed);
+}
+
 /// An old device's INTs, then those of the same one when it has come with year 6.
 #[test]
 fn short_ints() {
@@ -160,6 +229,7 @@ fn captures() {
         let steps = std::fs::read_to_string(path.with_extension("steps")).unwrap();
         assert_eq!(printed.lines().count(), steps.lines().count(), "{name}");
         for (step, line) in steps.lines().zip(printed.lines()) {
+            let line = line.strip_prefix("line ").unwrap_or(line);
             match refusal(step) {
                 Some(number) => assert_eq!(line, format!("refused {number}"), "{name}: {step}"),
                 None => assert!(!line.starts_with("refused"), "{name}: {step}"),
@@ -190,38 +260,45 @@ fn loaded_tables() {
 
 #[test]
 fn bad_records() {
-    for record in [&[0][..], &[7], &[255], &[1], &[1, 3], &[1, 3, 1], &[1, 3, 1, 0], &[2], &[4, 3]]
-    {
+    let cut = [&[1, 3][..], &[1, 3, 1], &[1, 3, 1, 0], &[7, 3], &[7, 3, 1], &[7, 9, 1, 0]];
+    let whole = [&[0][..], &[1], &[2], &[4, 3], &[7], &[8], &[255]];
+    for record in cut.into_iter().chain(whole) {
         assert_eq!(output(&[&[2, 3], record]), "refused 15\nbad record 2\n", "{record:?}");
     }
     assert_eq!(replay_output(&[0; 65_537]), "too long\n");
     assert_eq!(replay_output(&[0; 65_536]), "bad record 1\n");
 }
 
-/// Scripts reach every answer of the hub, and show all about the width of INTs.
+/// Scripts reach every answer of the hub and of lines, and show all about the width of INTs
+/// and about lines.
 #[test]
 fn scripts_reach_every_answer() {
     let mut random = Random::new(12);
     let mut met = BTreeMap::new();
     for _ in 0..1_500 {
         let mut widths = Widths::default();
-        let printed =
-            replay_watched(&generate::any(&mut random), |catalogue, table, socket, packet| {
-                for shown in widths.shown(catalogue, table, socket, packet) {
-                    *met.entry(format!("shown {}", shown.number())).or_insert(0) += 1;
-                }
-            });
+        let input = generate::any(&mut random);
+        let printed = replay_watched(&input, |catalogue, table, socket, packet| {
+            for shown in widths.shown(catalogue, table, socket, packet) {
+                *met.entry(format!("shown {}", shown.number())).or_insert(0) += 1;
+            }
+        });
+        for shown in in_replay(&input) {
+            *met.entry(format!("line shown {}", shown.number())).or_insert(0) += 1;
+        }
         for line in printed.lines() {
-            let mut words = line.split(' ');
-            let word = words.next().unwrap();
-            let key = if word == "refused" { line.to_string() } else { word.to_string() };
-            *met.entry(key).or_insert(0) += 1;
+            let word = line.split(' ').next().unwrap();
+            let key = if matches!(word, "refused" | "line") { line } else { word };
+            *met.entry(key.to_string()).or_insert(0) += 1;
         }
     }
     let refusals = (1..=19).map(|number| format!("refused {number}"));
     let words = ["took", "left", "posted", "int", "float", "flag", "absent", "loaded", "table"];
     let shown = Shown::NUMBERS.iter().map(|number| format!("shown {number}"));
     let words = words.into_iter().chain(["bad"]).map(String::from);
+    let of_lines = (2..=8).map(|number| format!("line refused {number}"));
+    let shown_of_lines = InReplay::NUMBERS.iter().map(|number| format!("line shown {number}"));
+    let shown = shown.chain(of_lines).chain(shown_of_lines);
     for key in refusals.chain(words).chain(shown) {
         assert!(met.get(&key).is_some_and(|&times| times >= 20), "{key}: {met:?}");
     }

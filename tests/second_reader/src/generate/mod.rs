@@ -3,6 +3,7 @@
 
 pub mod catalogue;
 pub mod hub;
+pub mod line;
 pub mod list;
 pub mod packet;
 pub mod replay;

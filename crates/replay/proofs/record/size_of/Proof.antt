@@ -20,6 +20,15 @@ add-result c = search needs
 add-result-2 : tie.Need-add-result-2
 add-result-2 c = search needs
 
+u16-at-requires-2 : tie.Need-u16-at-requires-2
+u16-at-requires-2 c κs = search needs
+
+cast-result-2 : tie.Need-cast-result-2
+cast-result-2 c = search needs
+
+add-result-3 : tie.Need-add-result-3
+add-result-3 c = search needs
+
 returns : tie.Need-returns
 unfolding recordSize
 returns c = rw (← c .before .before .byte-at .ensures, c .before .match .keys1, ← c .u16-at .ensures)
@@ -46,7 +55,13 @@ returns-6 c = rw (← c .before .byte-at .ensures, c .match .keys6)
 
 returns-7 : tie.Need-returns-7
 unfolding recordSize
-returns-7 c = let r = c .match .rest in rw (← c .before .byte-at .ensures, ne-eqb _ _ (r .0 .0 .0 .0 .0 .1), ne-eqb _ _ (r .0 .0 .0 .0 .1), ne-eqb _ _ (r .0 .0 .0 .1), ne-eqb _ _ (r .0 .0 .1), ne-eqb _ _ (r .0 .1), ne-eqb _ _ (r .1))
+returns-7 c = rw (← c .before .before .byte-at .ensures, c .before .match .keys7, ← c .u16-at2 .ensures)
+
+returns-8 : tie.Need-returns-8
+unfolding recordSize
+returns-8 c =
+    let r = c .match .rest in
+    rw (← c .before .byte-at .ensures, ne-eqb _ _ (r .0 .0 .0 .0 .0 .0 .1), ne-eqb _ _ (r .0 .0 .0 .0 .0 .1), ne-eqb _ _ (r .0 .0 .0 .0 .1), ne-eqb _ _ (r .0 .0 .0 .1), ne-eqb _ _ (r .0 .0 .1), ne-eqb _ _ (r .0 .1), ne-eqb _ _ (r .1))
 
 pub size-of-spec : {M : Type 1} → statement M
 size-of-spec =
@@ -57,10 +72,14 @@ size-of-spec =
     cast-result
     add-result
     add-result-2
+    u16-at-requires-2
+    cast-result-2
+    add-result-3
     returns
     returns-2
     returns-3
     returns-4
     returns-5
     returns-6
-    returns-7)
+    returns-7
+    returns-8)

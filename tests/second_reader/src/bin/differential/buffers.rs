@@ -12,7 +12,7 @@ pub fn exact(bytes: Vec<u8>) -> Box<[u8]> {
 }
 
 /// Longer than any buffer by more than a pattern's start can be.
-const PATTERN: usize = 1 << 16;
+const PATTERN: usize = 1 << 17;
 const PATTERN_STARTS: u64 = 1 << 15;
 
 /// A buffer with the pattern of this seed: a part of one stretch of random bytes.
@@ -69,5 +69,5 @@ impl<Answer: PartialEq + Debug, const BUFFERS: usize> Outcome<Answer, BUFFERS> {
     }
 }
 
-/// The name of the other side that packets and lists are compared with.
+/// The name of the other side that packets, lists and lines are compared with.
 pub const DEFINITION: &str = "definition";

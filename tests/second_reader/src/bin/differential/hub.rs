@@ -72,7 +72,7 @@ fn by_reader(catalogue: &[u8], call: &Call, table: &mut [u8], list: &mut [u8]) -
 fn published(catalogue: &[u8], table: &[u8], list: &mut [u8]) -> Result<usize, Error> {
     let catalogue = Catalogue::parse(catalogue)?;
     let table = Table::from_bytes(table).filter(|table| table.lawful(&catalogue));
-    let table = table.ok_or(Error::TableNotLawful)?;
+    let table = table.ok_or(Error::NotLawful)?;
     if list.len() < LIST_LIMIT {
         return Err(Error::BufferTooSmall);
     }

@@ -1,5 +1,6 @@
-//! Compares the product with the second reader on seeded inputs, packets, lists, texts and
-//! settings also with their definitions: each answer, and every byte of every lent buffer.
+//! Compares the product with the second reader on seeded inputs, packets, lists, texts,
+//! settings and lines also with their definitions: each answer, and every byte of every lent
+//! buffer.
 //!
 //! Sections of archive calls are compiled in by the features of the same names; the
 //! programs' sections are always there.
@@ -11,13 +12,14 @@
     feature = "hub",
     feature = "writers",
     feature = "text",
-    feature = "setting"
+    feature = "setting",
+    feature = "push"
 ))]
 mod buffers;
 mod crash;
 #[cfg(feature = "hub")]
 mod hub;
-#[cfg(any(feature = "hub", feature = "setting"))]
+#[cfg(any(feature = "hub", feature = "setting", feature = "push"))]
 mod lent;
 #[cfg(feature = "list")]
 mod list;
@@ -27,6 +29,8 @@ mod options;
 #[cfg(feature = "packet")]
 mod packet;
 mod programs;
+#[cfg(feature = "push")]
+mod push;
 mod report;
 #[cfg(feature = "setting")]
 mod setting;
@@ -48,9 +52,9 @@ use std::time::{Duration, Instant};
 fn sections() -> Vec<(Section, u64)> {
     vec![
         #[cfg(feature = "packet")]
-        (packet::SECTION, 230),
+        (packet::SECTION, 200),
         #[cfg(feature = "list")]
-        (list::SECTION, 230),
+        (list::SECTION, 200),
         #[cfg(feature = "stream")]
         (stream::SECTION, 90),
         #[cfg(feature = "hub")]
@@ -61,9 +65,12 @@ fn sections() -> Vec<(Section, u64)> {
         (text::SECTION, 95),
         #[cfg(feature = "setting")]
         (setting::SECTION, 100),
+        #[cfg(feature = "push")]
+        (push::SECTION, 50),
         (programs::RUN, 15),
         (programs::REPLAY, 15),
         (programs::SHOW, 15),
+        (programs::LINE, 10),
     ]
 }
 

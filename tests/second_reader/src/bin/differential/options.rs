@@ -4,8 +4,8 @@ use std::path::{Path, PathBuf};
 
 pub const USAGE: &str = "usage: differential [--only SECTION,...] [--cases N] [--seed S] \
     [--from K] [--seconds N] [--out FOLDER]
-  --only     packet, list, stream, hub, writers, text, setting, run, replay, show; all that
-             are compiled in otherwise
+  --only     packet, list, stream, hub, writers, text, setting, push, run, replay, show,
+             line; all that are compiled in otherwise
   --cases    random cases in all, spread over the sections (100000)
   --seed     where the random numbers start (1)
   --from     the number of the first random case, to repeat a difference; skips the

@@ -1,15 +1,19 @@
-//! The programs run, replay and show against the second reader: what each prints for an input.
-//! A case is one process.
+//! The programs run, replay, show and line against the second reader: what each prints for an
+//! input. A case is one process.
 
 use crate::options;
 use crate::report::{count_answer, hex, Answers, Difference, Section, READER};
 use second_reader::generate::writers::bytes_of;
 use second_reader::generate::{
-    catalogue, damage, list, replay as generate_replay, stream as generate_stream, text,
+    catalogue, damage, line as generate_line, list, replay as generate_replay,
+    stream as generate_stream, text,
 };
+use second_reader::line::{line_output, LINE_LIMIT};
 use second_reader::list::{DEPTH_LIMIT, LIST_LIMIT};
+use second_reader::packet::{LOG, PAYLOAD_LIMIT, PING};
 use second_reader::random::Random;
 use second_reader::replay::{replay_watched, DETACH, PUBLISH, REPLAY_LIMIT};
+use second_reader::scraps::{in_replay, InReplay};
 use second_reader::stream::{run_output, show_output, RUN_LIMIT};
 use second_reader::table::TABLE_BYTES;
 use second_reader::widths::{Shown, Widths};
@@ -39,10 +43,23 @@ pub const REPLAY: Section = Section {
             of: "replay",
             numbers: &[0, 1, 2, 3, 4, 5, 6, 7, 8, 9, 10, 11, 12, 13, 14, 15, 16, 17, 18, 19],
         },
+        Answers { of: "replay's line", numbers: &[2, 3, 4, 5, 6, 7, 8] },
         Answers { of: "replay's widths", numbers: Shown::NUMBERS },
+        Answers { of: "replay's scraps", numbers: InReplay::NUMBERS },
     ],
     enumerated: replay_enumerated,
     random: replay_case,
+};
+pub const LINE: Section = Section {
+    name: "line",
+    progress: 500,
+    answers: &[
+        Answers { of: "line", numbers: &[0, 2, 3, 4, 5, 6, 7, 8] },
+        // Fresh, skipping, length and inside.
+        Answers { of: "line's end", numbers: &[0, 1, 2, 3] },
+    ],
+    enumerated: line_enumerated,
+    random: line_case,
 };
 
 /// Scripts of every kind, always the same, so that each answer is among the lines.
@@ -103,12 +120,17 @@ fn check(program: &'static str, input: Vec<u8>, expected: &str) -> Result<u64, D
 /// Counts the answers in a program's lines; all but errors count as 0.
 fn count_lines(program: &'static str, text: &str) {
     for line in text.lines() {
-        let mut words = line.split(' ');
-        let error = match words.next() {
-            Some("stop" | "refused") => words.next().and_then(|number| number.parse().ok()),
-            _ => None,
-        };
-        count_answer(program, error.unwrap_or(0));
+        let words: Vec<&str> = line.split(' ').collect();
+        match words[..] {
+            ["stop" | "refused", number, ..] => count_answer(program, number.parse().unwrap()),
+            ["line", "refused", number] => count_answer("replay's line", number.parse().unwrap()),
+            ["end", _, phase] => {
+                let phases = ["fresh", "skipping", "length", "inside"];
+                let phase = phases.iter().position(|&name| name == phase).unwrap();
+                count_answer("line's end", phase as u64);
+            }
+            _ => count_answer(program, 0),
+        }
     }
 }
 
@@ -231,6 +253,11 @@ fn check_replay(input: Vec<u8>) -> Result<u64, Difference> {
             count_answer("replay's widths", shown.number());
         }
     });
+    if input.len() <= REPLAY_LIMIT {
+        for shown in in_replay(&input) {
+            count_answer("replay's scraps", shown.number());
+        }
+    }
     check("replay", input, &expected)
 }
 
@@ -238,7 +265,7 @@ fn replay_case(random: &mut Random) -> Result<u64, Difference> {
     check_replay(generate_replay::any(random))
 }
 
-/// Sizes around the limit, each record alone and cut short, every year, and catalogues.
+/// Sizes around the limit, each record alone and cut short, every year, lines, and catalogues.
 fn replay_enumerated() -> Result<u64, Difference> {
     const EMPTY: [u8; 5] = [3, 0, 0, 0, 0];
     let mut checks = check_replay(EMPTY.to_vec())?;
@@ -257,11 +284,63 @@ fn replay_enumerated() -> Result<u64, Difference> {
         }
     }
     checks += check_replay(generate_replay::years())?;
+    for input in generate_replay::lines() {
+        checks += check_replay(input)?;
+    }
     let mut random = Random::new(0);
     for _ in 0..SCRIPTS {
         checks += check_replay(generate_replay::any(&mut random))?;
     }
     Ok(checks + replay_catalogues()?)
+}
+
+fn check_line(input: Vec<u8>) -> Result<u64, Difference> {
+    let expected = line_output(&input);
+    check("line", input, &expected)
+}
+
+/// A line; at times as many pieces as come near the most that is read.
+fn line_case(random: &mut Random) -> Result<u64, Difference> {
+    let mut input = generate_line::any(random);
+    if random.once_in(12) {
+        while input.len() < LINE_LIMIT {
+            input.extend(generate_line::any(random));
+        }
+        input.truncate(random.between(LINE_LIMIT - 300, LINE_LIMIT + 1));
+    }
+    check_line(input)
+}
+
+/// Lines around the longest; the longest and the shortest packet with each byte changed and
+/// with 00 or 01 put in before each; packets and what is none behind each other; and a few
+/// hundred lines of every kind.
+fn line_enumerated() -> Result<u64, Difference> {
+    let ping = generate_line::good(PING, 0, 0);
+    let longest = generate_line::good(LOG, PAYLOAD_LIMIT, 1);
+    let mut inputs = vec![Vec::new()];
+    for length in [LINE_LIMIT - 1, LINE_LIMIT, LINE_LIMIT + 1, 2 * LINE_LIMIT, 100_000] {
+        for piece in [&[0][..], &[1], &[0, 4], &ping, &longest] {
+            let mut line = piece.repeat(length / piece.len() + 1);
+            line.truncate(length);
+            inputs.push(line);
+        }
+    }
+    let both = [&longest[..], &ping].concat();
+    for at in 0..both.len() {
+        let mut changed = both.clone();
+        changed[at] ^= 1;
+        inputs.push(changed);
+        let mut longer = both.clone();
+        longer.insert(at, at as u8 % 2);
+        inputs.push(longer);
+    }
+    let pieces = generate_line::telling();
+    for first in &pieces {
+        inputs.extend(pieces.iter().map(|second| [&first[..], second].concat()));
+    }
+    let mut random = Random::new(0);
+    inputs.extend((0..SCRIPTS).map(|_| generate_line::any(&mut random)));
+    of_each(inputs, check_line)
 }
 
 /// Whether each catalogue is taken: those at the limits, and the bench cases' one cut

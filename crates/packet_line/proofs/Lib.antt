@@ -1,0 +1,15 @@
+pub mod Turns
+pub mod States
+pub mod Reader
+pub mod Taking
+pub mod Areas
+pub mod Parts
+pub mod Starts
+pub mod Marks
+pub mod Judging
+pub mod Calls
+pub mod Cuts
+pub mod Standing
+pub mod Exactly
+pub mod Words
+pub mod Cases
