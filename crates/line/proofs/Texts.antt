@@ -113,6 +113,13 @@ pub record Refusal (s line′ text : List ℕ) (offset used consumed number : �
   pub later : (text′ : List ℕ) (to : ℕ) → Added text used text′ to (refusedLine number (offset + consumed - 1))
       → Done s (offset + consumed) line′ (take to text′)
 
+-- what a call leaves, by what it found: more is wanted, and the last line is missing alone; a packet is handed over; one is refused
+pub record Left (s line′ packet′ text : List ℕ) (offset used consumed : ℕ) (a : Code) : Type 0 where
+  pub fits : offset + consumed ≤ length s
+  pub ends : a ≡ code.Nothing → take used text ++ endLine (offset + consumed) (stateIn line′) ≡ lineText s
+  pub hands : a ≡ code.Packet → Handed s line′ packet′ text offset used consumed
+  pub refuses : (number : ℕ) → a ≡ code.Refused number → Refusal s line′ text offset used consumed number
+
 -- a call on the bytes of a line from an offset on
 module _ (s line packet line′ packet′ text : List ℕ) (offset used consumed : ℕ) (a : Code) (done : Done s offset line (take used text))
     (k : Bytes s) (room : PACKET_ROOM ≤ length packet) (f : offset ≤ length s)
@@ -202,8 +209,8 @@ module _ (s line packet line′ packet′ text : List ℕ) (offset used consumed
         holds = record {
           fits = omega (arith, ap length h, length-append p (drop (length p) packet));
           within =
-              omega
-              (arith, ap length split, length-append (stands .1 .before) (p ++ stands .1 .later), length-append p (stands .1 .later), length-take-le (offset + consumed) s fits-all);
+              let sizes = length-append (stands .1 .before) (p ++ stands .1 .later) in
+              omega (arith, ap length split, sizes, length-append p (stands .1 .later), length-take-le (offset + consumed) s fits-all);
           accepted = rw front (stands .0);
         };
         later = λ text′ to added. next text′ to (rw q (rw place at (rw (front, size) at added)));
@@ -231,3 +238,7 @@ module _ (s line packet line′ packet′ text : List ℕ) (offset used consumed
             some = omega (arith, taken-is, refused-some st (drop offset s) m q);
             later = λ text′ to added. next text′ to (rw q (rw same at added));
           }
+
+  -- all of these
+  pub leaves : Left s line′ packet′ text offset used consumed a
+  leaves = record { fits = fits-all; ends = wanted; hands = handed-over; refuses = refusal-found }

@@ -1,15 +1,15 @@
 -- What a line area and a packet area hold behind the moves that the functions make.
-use Prim.Native.Nat.{ℕ, zero, suc, _+_, _-_, _≤_, _<_}
-use mathlib.Core.Path.{_≡_, refl, sym, ap, _∙_}
+use Prim.Native.Nat.{ℕ, zero, suc, _+_, _-_, _≤_}
+use mathlib.Core.Path.{_≡_, refl, ap, _∙_}
 use mathlib.Core.Bool.{Bool, true, false}
-use mathlib.Core.List.{List, [], _∷_, _++_, append-assoc}
+use mathlib.Core.List.{List, [], _∷_, _++_}
 use native.Mathlib.Nat.{suc-sub-suc, sub-zero, zero-sub}
 use native.Mathlib.Omega.{arith}
 use lib.ListN.{length, getD, take, drop, set, replicate, length-append, length-replicate}
 use lib.Seq.{take-append-seam, drop-append-add, sets-eq, take-all, length-take-le}
 use lib.Dec.{eqb}
 use borrow.Author.Tests.{eq-eqb, ne-eqb}
-use Rattle.wire.specs.Area.{over, putAt}
+use Rattle.wire.specs.Area.{putAt}
 use Rattle.wire.proofs.Buffers.{put-fits, sets-front}
 use Rattle.packet.specs.Packet.{PACKET_ROOM, PART_MOST, lengthByte, packetError}
 use Rattle.packet.proofs.FrontTests.{Front}

@@ -1,7 +1,7 @@
 -- The room of a part: no 00 among the bytes held, zeros behind them, by one test of each byte.
 use Prim.Native.Nat.{ℕ, zero, suc, _+_, _-_, _%_, _≤_, _<_}
 use mathlib.Core.Path.{_≡_, refl, sym, ap, _∙_}
-use mathlib.Core.Bool.{Bool, Bool·beq, true, false, cond, _&&_}
+use mathlib.Core.Bool.{Bool, Bool·beq, true, false, cond}
 use mathlib.Core.List.{List, [], _∷_, _++_}
 use native.Mathlib.Omega.{arith}
 use lib.Dec.{eqb, leb}

@@ -1,10 +1,10 @@
 -- Bytes inside a part, by where their first 00 stands.
 use Prim.Native.Nat.{ℕ, suc, _+_, _≤_}
-use mathlib.Core.Path.{_≡_, sym, ap, _∙_}
+use mathlib.Core.Path.{_≡_, ap, _∙_}
 use mathlib.Core.Bool.{true}
 use mathlib.Core.List.{List, _∷_, _++_, append-assoc}
 use native.Mathlib.Omega.{arith}
-use lib.ListN.{length, take, drop, getD}
+use lib.ListN.{length, take, drop}
 use lib.Seq.{split-at, length-take-le}
 use Rattle.wire.specs.Zero.{hasZero, zeroAt}
 use Rattle.wire.proofs.Zeros.{zero-before, zero-found, zero-there}

@@ -2,7 +2,7 @@
 use Prim.Native.Nat.{ℕ, zero, suc, _+_, _-_, _≤_, _<_}
 use mathlib.Core.Path.{_≡_, refl, sym, ap, _∙_}
 use mathlib.Core.Bool.{Bool, true, false, _||_}
-use mathlib.Core.List.{List, [], _∷_, _++_}
+use mathlib.Core.List.{List, [], _∷_}
 use native.Mathlib.Omega.{arith}
 use native.Mathlib.Nat.{zero-add}
 use lib.Dec.{eqb, ltb}
@@ -20,7 +20,7 @@ use Rattle.packet_line.specs.State.{State, fresh, skipping, opened, insi
 use Rattle.packet_line.specs.Turn.{Finding, nothing, good, refused}
 use Rattle.packet_line.specs.Push.{Answer, moreWanted, Outcome, outcome, Taken, taken, takenFrom, inAreas, outcomeOf}
 use Rattle.packet_line.specs.Steps.{IsInside, IsJudged, Entered, delivered, later, settledAnswer, settledState}
-use Rattle.packet_line.proofs.States.{Begun, inside-state}
+use Rattle.packet_line.proofs.States.{inside-state}
 use Rattle.packet_line.proofs.Taking.{fresh-zero, skip-zero, fresh-other, skip-run, skip-more, length-zero, length-small, length-taken, taken-within, whole-good, whole-bad}
 
 -- what is left of bytes behind the first k

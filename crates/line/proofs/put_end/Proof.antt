@@ -1,14 +1,27 @@
 -- `line::put_end` meets its contract: the phase is the first byte of the line state.
-use mathlib.Core.Path.{sym, ap, _∙_}
+use mathlib.Core.Path.{_≡_, sym, ap, _∙_}
 use native.Mathlib.Omega.{arith}
 use lib.ListN.{drop}
 use borrow.Author.Needs.{needs}
-use Rattle.packet_line.specs.State.{fresh, skipping, opened, inside, sizeIn, heldIn}
+use Rattle.packet_line.specs.State.{State, fresh, skipping, opened, inside, sizeIn, heldIn}
 use Rattle.packet_line.proofs.Judging.{fresh-in, skipping-in, opened-in, inside-in}
-use Rattle.output.specs.Output.{puts}
+use Rattle.output.specs.Output.{Output, output, puts}
 use Rattle.line.specs.Text.{phaseName, endPieces}
 use Rattle.line.proofs.put_end.Statement.{statement}
 use Rattle.line.proofs.put_end.Tie as tie
+
+-- behind the phase: the start, and the number that was put
+abbrev S : tie.After-byte-at → tie.Start
+S b = b .before .before .before .before .before .before .before .before
+
+abbrev N : tie.After-byte-at → tie.After-put-number
+N b = b .before .before .before
+
+-- what is put behind the number makes the pieces of the end whole
+whole : (b : tie.After-byte-at) (st : State) {o : Output} → o ≡ puts (output (N b .put-number .last .0) (N b .put-number .result)) (drop 2 (endPieces (S b .args .offset) st))
+    → o ≡ puts (output (S b .args .text .now) (S b .args .used)) (endPieces (S b .args .offset) st)
+unfolding puts
+whole b st e = e ∙ ap (λ (t : Output). puts t (drop 2 (endPieces (S b .args .offset) st))) (N b .put-number .ensures)
 
 slice-aggregate-put-number : tie.Need-slice-aggregate-put-number
 slice-aggregate-put-number c = search needs
@@ -49,12 +62,9 @@ same-length c = search needs
 returns : tie.Need-returns
 unfolding puts phaseName
 returns c =
-    let a = c .before .before .before .before .before .before .before .before .before .before .before .before .before .before .args in
-    let line = a .line .now in
-    let phase = c .before .before .before .before .before .before .byte-at .ensures in
-    let told = c .before .before .before .before .before .match in
-    let first = c .before .before .before .before .before .before .before .before .before .put-number .ensures in
-    rw (fresh-in line (sym phase ∙ told .keys1)) (c .before .before .put .ensures ∙ ap (λ t. puts t (drop 2 (endPieces (a .offset) fresh))) first)
+    let m = c .before .before .before .before .before in
+    let b = m .before in
+    rw (fresh-in _ (sym (b .byte-at .ensures) ∙ m .match .keys1)) (whole b fresh (c .before .before .put .ensures))
 
 same-length-2 : tie.Need-same-length-2
 same-length-2 c = search needs
@@ -62,12 +72,9 @@ same-length-2 c = search needs
 returns-2 : tie.Need-returns-2
 unfolding puts phaseName
 returns-2 c =
-    let a = c .before .before .before .before .before .before .before .before .before .before .before .before .before .before .args in
-    let line = a .line .now in
-    let phase = c .before .before .before .before .before .before .byte-at .ensures in
-    let told = c .before .before .before .before .before .match in
-    let first = c .before .before .before .before .before .before .before .before .before .put-number .ensures in
-    rw (skipping-in line (sym phase ∙ told .keys2)) (c .before .before .put2 .ensures ∙ ap (λ t. puts t (drop 2 (endPieces (a .offset) skipping))) first)
+    let m = c .before .before .before .before .before in
+    let b = m .before in
+    rw (skipping-in _ (sym (b .byte-at .ensures) ∙ m .match .keys2)) (whole b skipping (c .before .before .put2 .ensures))
 
 same-length-3 : tie.Need-same-length-3
 same-length-3 c = search needs
@@ -75,12 +82,9 @@ same-length-3 c = search needs
 returns-3 : tie.Need-returns-3
 unfolding puts phaseName
 returns-3 c =
-    let a = c .before .before .before .before .before .before .before .before .before .before .before .before .before .before .args in
-    let line = a .line .now in
-    let phase = c .before .before .before .before .before .before .byte-at .ensures in
-    let told = c .before .before .before .before .before .match in
-    let first = c .before .before .before .before .before .before .before .before .before .put-number .ensures in
-    rw (opened-in line (sym phase ∙ told .keys3)) (c .before .before .put3 .ensures ∙ ap (λ t. puts t (drop 2 (endPieces (a .offset) opened))) first)
+    let m = c .before .before .before .before .before in
+    let b = m .before in
+    rw (opened-in _ (sym (b .byte-at .ensures) ∙ m .match .keys3)) (whole b opened (c .before .before .put3 .ensures))
 
 same-length-4 : tie.Need-same-length-4
 same-length-4 c = search needs
@@ -88,12 +92,12 @@ same-length-4 c = search needs
 returns-4 : tie.Need-returns-4
 unfolding puts phaseName
 returns-4 c =
-    let a = c .before .before .before .before .before .before .before .before .before .before .before .before .before .before .args in
-    let line = a .line .now in
-    let phase = c .before .before .before .before .before .before .byte-at .ensures in
-    let told = c .before .before .before .before .before .match in
-    let first = c .before .before .before .before .before .before .before .before .before .put-number .ensures in
-    rw (inside-in line (omega (arith, told .rest .0 .0 .1, told .rest .0 .1, told .rest .1))) (c .before .before .put4 .ensures ∙ ap (λ t. puts t (drop 2 (endPieces (a .offset) (inside (sizeIn line) (heldIn line))))) first)
+    let m = c .before .before .before .before .before in
+    let b = m .before in
+    let line = S b .args .line .now in
+    let phase = b .byte-at .ensures in
+    let rest = m .match .rest in
+    rw (inside-in line (omega (arith, rest .0 .0 .1, rest .0 .1, rest .1))) (whole b (inside (sizeIn line) (heldIn line)) (c .before .before .put4 .ensures))
 
 pub put-end-spec : {M : Type 1} → statement M
 put-end-spec =

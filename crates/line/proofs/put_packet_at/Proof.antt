@@ -39,12 +39,16 @@ same-length c = search needs
 returns : tie.Need-returns
 unfolding packetLine puts
 returns c =
-    let a = c .before .before .before .before .before .before .before .before .before .before .before .before .before .before .before .before .before .before .args in
-    let kind = c .before .before .before .type-of .ensures in
-    let pieces = packetPieces (a .at) (a .packet .now) in
-    let last = rw kind at (c .before .before .put-line .ensures) in
-    let all = last ∙ ap (λ t. puts t (drop 4 pieces)) (c .before .before .before .before .before .before .before .before .put-number2 .ensures ∙ ap (λ t. puts t (take 2 (drop 2 pieces))) (c .before .before .before .before .before .before .before .before .before .before .before .before .before .put-number .ensures)) in
-    let short = packet-short (a .at) (a .packet .now) in
+    let b = c .before .before .before .before .before .before .before .before in
+    let a = b .before .before .before .before .before in
+    let s = a .before .before .before .before .before in
+    let place = s .args .at in
+    let packet = s .args .packet .now in
+    let pieces = packetPieces place packet in
+    let last = rw (c .before .before .before .type-of .ensures) at (c .before .before .put-line .ensures) in
+    let second = b .put-number2 .ensures ∙ ap (λ t. puts t (take 2 (drop 2 pieces))) (a .put-number .ensures) in
+    let all = last ∙ ap (λ t. puts t (drop 4 pieces)) second in
+    let short = packet-short place packet in
     let added = pieces-added pieces all (search needs) in
     (added, search needs)
 

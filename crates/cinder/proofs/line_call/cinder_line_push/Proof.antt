@@ -10,7 +10,8 @@ use Rattle.cinder.proofs.line_call.cinder_line_push.Tie as tie
 -- the answer of what was found, in numbers
 answered : (c : tie.After-push) (f : Finding) → c .push .result .finding ≡ f
     → lineOutcome (outcome (answerOf f) (c .push .result .consumed) (c .push .last .0) (c .push .last .1 .1 .0))
-    ≡ lineCall (c .before .before .before .before .before .before .args .line .now) (c .before .before .before .before .before .before .args .bytes .now) (c .before .before .before .before .before .before .args .packet .now)
+    ≡ lineCall (c .before .before .before .before .before .before .args .line .now)
+    (c .before .before .before .before .before .before .args .bytes .now) (c .before .before .before .before .before .before .args .packet .now)
 unfolding lineCall
 answered c f e =
     ap (λ (g : Finding). lineOutcome (outcome (answerOf g) (c .push .result .consumed) (c .push .last .0) (c .push .last .1 .1 .0))) (sym e)

@@ -1,7 +1,7 @@
 -- `complete` judges the packet where it is held, and clears the state.
 use Prim.Native.Nat.{ℕ, _+_, _-_}
 use mathlib.Core.List.{List, _∷_, _++_}
-use mathlib.Core.Path.{_≡_, sym, ap, _∙_}
+use mathlib.Core.Path.{_≡_, ap, _∙_}
 use native.Mathlib.Omega.{arith}
 use lib.ListN.{length, take, drop, length-append}
 use borrow.Author.Needs.{needs}
@@ -12,6 +12,7 @@ use Rattle.packet.specs.Packet.{packetError}
 use Rattle.packet_line.proofs.part.complete.Statement.{statement}
 use Rattle.packet_line.proofs.part.complete.Tie as tie
 
+-- the state inside a part, and the part, all there
 area : (c : tie.Start) → Inside (c .args .line .now)
 area c = inside-area _ (c .pre .0)
 
@@ -60,7 +61,7 @@ copy-at-requires : tie.Need-copy-at-requires
 copy-at-requires c κs = search needs
 
 add-deliver : tie.Need-add-deliver
-add-deliver c = omega (arith, area (c .before .before .before .before .before .before .before .before .before) .part .most)
+add-deliver c = omega (arith, area (S (c .before .before)) .part .most)
 
 sub-deliver : tie.Need-sub-deliver
 sub-deliver c = search needs
@@ -69,7 +70,9 @@ part-deliver-start : tie.Need-part-deliver-start
 part-deliver-start c = search needs
 
 part-deliver-end : tie.Need-part-deliver-end
-part-deliver-end c = omega (arith, long (c .before .before .before), area (c .before .before .before .before .before .before .before .before .before .before) .part .most)
+part-deliver-end c =
+    let k = c .before .before .before in
+    omega (arith, long k, area (S k) .part .most)
 
 deliver-requires : tie.Need-deliver-requires
 deliver-requires c κs = search needs
@@ -78,7 +81,10 @@ clear-requires : tie.Need-clear-requires
 clear-requires c κs = search needs
 
 settle-requires : tie.Need-settle-requires
-settle-requires c κs = clean-zeros _ _ (c .before .before .before .clear .ensures) (long (c .before .before .before .before .before .before .before .before .before .before .before .before .before))
+settle-requires c κs =
+    let z = c .before .before .before in
+    let k = z .before .before .before .before .before .before .before .before .before .before in
+    clean-zeros _ _ (z .clear .ensures) (long k)
 
 same-length : tie.Need-same-length
 same-length c = search needs
@@ -87,13 +93,15 @@ same-length-2 : tie.Need-same-length-2
 same-length-2 c = search needs
 
 returns : tie.Need-returns
-returns c = let d = c .before .before .before .before .before .before .before .before .before .before .deliver .ensures in
-    let k = c .before .before .before .before .before .before .before .before .before .before .before .before .before .before .before .before in
-    let s = S k in
+returns c =
     let e = c .before .before .settle .ensures in
+    let d = c .before .before .before .before .before .before .before .before .before .before in
+    let k = d .before .before .before .before .before .before in
+    let s = S k in
     let area = s .args .packet .now in
-    rw (e .0, e .1, e .2)
-    (judged (sizeIn (s .args .line .now)) _ _ (part s) area _ (sized s) (d .0 ∙ ap packetError (whole k)) (d .1 ∙ ap (λ (p : List ℕ). delivered p area) (whole k)))
+    let error = d .deliver .ensures .0 ∙ ap packetError (whole k) in
+    let out = d .deliver .ensures .1 ∙ ap (λ (p : List ℕ). delivered p area) (whole k) in
+    rw (e .0, e .1, e .2) (judged (sizeIn (s .args .line .now)) _ _ (part s) area _ (sized s) error out)
 
 pub complete-spec : {M : Type 1} → statement M
 complete-spec =

@@ -11,6 +11,7 @@ use Rattle.wire.proofs.Zeros.{zero-within}
 use Rattle.packet_line.proofs.part.cut.Statement.{statement}
 use Rattle.packet_line.proofs.part.cut.Tie as tie
 
+-- the state inside a part, and the area behind the clearing
 area : (c : tie.Start) → Inside (c .args .line .now)
 area c = inside-area _ (c .pre .0)
 
@@ -27,7 +28,9 @@ zero-at-requires : tie.Need-zero-at-requires
 zero-at-requires c κs = search needs
 
 add-refused : tie.Need-add-refused
-add-refused c = let s = c .before .before .before .before .before .before .before in omega (arith, c .zero-at .ensures, zero-within (s .args .bytes .now), s .pre .1, area s .part .most)
+add-refused c =
+    let s = c .before .before .before .before .before .before .before in
+    omega (arith, c .zero-at .ensures, zero-within (s .args .bytes .now), s .pre .1, area s .part .most)
 
 refused-requires : tie.Need-refused-requires
 refused-requires c κs = search needs
@@ -38,9 +41,11 @@ same-length c = search needs
 returns : tie.Need-returns
 unfolding stateBytes
 returns c = λ rest out.
-    let s = c .before .before .before .before .before .before .before .before in
+    let k = c .before .before .before .before in
+    let s = k .before .before .before .before in
     let line = s .args .line .now in
-    rw (c .refused .ensures, c .before .zero-at .ensures, cleared (c .before .before .before .before), inside-cut (sizeIn line) (heldIn line) (s .args .bytes .now) rest (s .pre .2) (s .pre .1))
+    let cut = inside-cut (sizeIn line) (heldIn line) (s .args .bytes .now) rest (s .pre .2) (s .pre .1) in
+    rw (c .refused .ensures, c .before .zero-at .ensures, cleared k, cut)
 
 pub cut-spec : {M : Type 1} → statement M
 cut-spec =

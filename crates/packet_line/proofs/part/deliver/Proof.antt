@@ -1,7 +1,6 @@
 -- `deliver` is the packet reader's judgement, and a packet that is good goes to the front of the area.
-use mathlib.Core.Path.{_≡_, sym, _∙_}
+use mathlib.Core.Path.{sym, _∙_}
 use native.Mathlib.Omega.{arith}
-use Rattle.packet.specs.Packet.{packetError}
 use Rattle.packet.proofs.FrontTests.{Front}
 use Rattle.packet.proofs.DecodeStages.{good-front}
 use Rattle.packet_line.proofs.Areas.{delivered-good, delivered-none}
@@ -43,11 +42,12 @@ same-length c = search needs
 returns : tie.Need-returns
 returns c =
     let k = c .before .before .before .before .before in
-    let b = k .before .before .before .before .before in
-    let e = sym (k .before .before .packet-error .ensures) ∙ k .before .if1 .taken in (
-      k .before .before .packet-error .ensures,
-      c .before .before .copy-at .ensures ∙ delivered-good (b .args .bytes .now) (b .args .packet .now) (b .pre) (front (k .before)) e (omega (arith, k .shared-slice-known2 .given 1)),
-    )
+    let t = k .before in
+    let s = t .before .before .before .before in
+    let e = t .before .packet-error .ensures in
+    let good = sym e ∙ t .if1 .taken in
+    let top = k .shared-slice-known2 .given 1 in
+    (e, c .before .before .copy-at .ensures ∙ delivered-good (s .args .bytes .now) (s .args .packet .now) (s .pre) (front t) good (omega (arith, top)))
 
 returns-2 : tie.Need-returns-2
 returns-2 c = (c .before .packet-error .ensures, delivered-none _ _ (λ e. c .if1 .left (c .before .packet-error .ensures ∙ e)))

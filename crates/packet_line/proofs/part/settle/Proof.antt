@@ -1,5 +1,5 @@
 -- `settle` names a packet that was judged good, or its error, and leaves the phase behind it.
-use mathlib.Core.Path.{refl, _∙_}
+use mathlib.Core.Path.{refl}
 use native.Mathlib.Omega.{arith}
 use borrow.Author.Needs.{needs}
 use borrow.Author.Tests.{eq-eqb, ne-eqb}

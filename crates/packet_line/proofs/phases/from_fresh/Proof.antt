@@ -9,6 +9,7 @@ use borrow.Author.Needs.{needs}
 use Rattle.packet_line.proofs.phases.from_fresh.Statement.{statement}
 use Rattle.packet_line.proofs.phases.from_fresh.Tie as tie
 
+-- the area is as long as a line state, and clean
 long : (s : tie.Start) → length (s .args .line .now) ≡ LINE_ROOM
 unfolding stateBytes
 long s = ap length (s .pre .0)
@@ -24,7 +25,12 @@ found-requires : tie.Need-found-requires
 found-requires c κs = search needs
 
 returns : tie.Need-returns
-returns c = let s = c .before .before .before .before .before .before in rw (c .found .ensures, c .before .more .ensures) (reached-found fresh (s .args .bytes .now) (s .args .packet .now) (rw (s .pre .0, none-taken fresh (s .args .bytes .now) (c .before .before .if1 .taken))))
+returns c =
+    let t = c .before .before in
+    let s = t .before .before .before .before in
+    let bytes = s .args .bytes .now in
+    let none = none-taken fresh bytes (t .if1 .taken) in
+    rw (c .found .ensures, c .before .more .ensures) (reached-found fresh bytes (s .args .packet .now) (rw (s .pre .0, none)))
 
 shared-slice-read-if2 : tie.Need-shared-slice-read-if2
 shared-slice-read-if2 c = search needs
@@ -43,14 +49,22 @@ same-length c = search needs
 
 returns-2 : tie.Need-returns-2
 unfolding stateBytes
-returns-2 c = let s = c .before .before .before .before .before .before .before .before in
-    let some = c .before .before .before .before .if1 .left in
-    rw (c .found2 .ensures, c .before .refused .ensures) (reached-found fresh (s .args .bytes .now) (s .args .packet .now) (rw (s .pre .0, fresh-some (s .args .bytes .now) (omega arith) (c .before .before .if2 .taken))))
+returns-2 c =
+    let t = c .before .before in
+    let l = t .before .before in
+    let s = l .before .before .before .before in
+    let bytes = s .args .bytes .now in
+    let some = l .if1 .left in
+    let other = fresh-some bytes (omega arith) (t .if2 .taken) in
+    rw (c .found2 .ensures, c .before .refused .ensures) (reached-found fresh bytes (s .args .packet .now) (rw (s .pre .0, other)))
 
 from-zero-requires : tie.Need-from-zero-requires
-from-zero-requires c κs = let s = c .before .before .before .before .before .before .before .before in
-    let some = c .before .before .before .before .if1 .left in
-    (clean s, omega arith, c .before .before .if2 .left, s .pre .1)
+from-zero-requires c κs =
+    let t = c .before .before in
+    let l = t .before .before in
+    let s = l .before .before .before .before in
+    let some = l .if1 .left in
+    (clean s, omega arith, t .if2 .left, s .pre .1)
 
 same-length-2 : tie.Need-same-length-2
 same-length-2 c = search needs

@@ -1,5 +1,4 @@
 -- `from_zero` judges a packet that is all there where it stands; another begins a part.
-use Prim.Native.Nat.{ℕ, _-_}
 use mathlib.Core.Bool.{true, _||_}
 use mathlib.Core.Path.{_≡_, sym, _∙_}
 use native.Mathlib.Omega.{arith}
@@ -15,19 +14,35 @@ use borrow.Author.Needs.{needs}
 use Rattle.packet_line.proofs.phases.from_zero.Statement.{statement}
 use Rattle.packet_line.proofs.phases.from_zero.Tie as tie
 
-whole : (c : tie.Then1) → (eqb (c .before .before .before .before .deliver-whole .result) 0 || ltb 4 (c .before .before .before .before .deliver-whole .result)) ≡ true
+-- the places: behind the judging, the start, and past the test where the packet is not all there
+abbrev D : tie.After-is-whole → tie.After-deliver-whole
+D w = w .before .before .before
+
+abbrev S : tie.After-deliver-whole → tie.Start
+S d = d .before .before .before .before .before
+
+abbrev Past : tie.After-from-opened → tie.Else1
+Past c = c .before .before .before
+
+-- the packet is all there
+whole : (c : tie.Then1) → (eqb (D (c .before) .deliver-whole .result) 0 || ltb 4 (D (c .before) .deliver-whole .result)) ≡ true
 whole c = sym (c .before .is-whole .ensures) ∙ c .if1 .taken
 
-front : (c : tie.Then1) → Front (c .before .before .before .before .before .before .before .before .before .args .bytes .now)
-front c = whole-front _ _ (c .before .before .before .before .deliver-whole .ensures .whole (whole c) .0) (whole c)
+front : (c : tie.Then1) → Front (S (D (c .before)) .args .bytes .now)
+front c = whole-front _ _ (D (c .before) .deliver-whole .ensures .whole (whole c) .0) (whole c)
 
 -- where the packet is not all there, or has a 00, the packet area is as it was
-kept : (c : tie.Else1) → c .before .before .before .before .deliver-whole .last .1 .0 ≡ c .before .before .before .before .before .before .before .before .before .args .packet .now
-kept c = c .before .before .before .before .deliver-whole .ensures .kept (sym (c .before .is-whole .ensures) ∙ c .if1 .left)
+kept : (c : tie.Else1) → D (c .before) .deliver-whole .last .1 .0 ≡ S (D (c .before)) .args .packet .now
+kept c = D (c .before) .deliver-whole .ensures .kept (sym (c .before .is-whole .ensures) ∙ c .if1 .left)
+
+-- the bytes behind the 00 are entered as behind a 00 of a call before
+abbrev O : tie.After-from-opened → tie.Start
+O c = S (D (Past c .before))
 
 inner : (c : tie.After-from-opened)
-    → Entered (c .from-opened .result .part) (answerOf (c .from-opened .result .finding)) (c .from-opened .result .at) (c .from-opened .last .0) (c .before .before .before .before .before .before .before .before .before .before .before .before .args .packet .now) opened (drop 1 (c .before .before .before .before .before .before .before .before .before .before .before .before .args .bytes .now)) (c .before .before .before .before .before .before .before .before .before .before .before .before .args .packet .now)
-inner c = let s = c .before .before .before .before .before .before .before .before .before .before .before .before in rw (rest-of (s .args .bytes .now) 1) at (c .from-opened .ensures (s .args .packet .now))
+    → Entered (c .from-opened .result .part) (answerOf (c .from-opened .result .finding)) (c .from-opened .result .at) (c .from-opened .last .0) (O c .args .packet .now)
+    opened (drop 1 (O c .args .bytes .now)) (O c .args .packet .now)
+inner c = rw (rest-of (O c .args .bytes .now) 1) at (c .from-opened .ensures (O c .args .packet .now))
 
 deliver-whole-requires : tie.Need-deliver-whole-requires
 deliver-whole-requires c κs = search needs
@@ -57,14 +72,17 @@ same-length-2 : tie.Need-same-length-2
 same-length-2 c = search needs
 
 returns : tie.Need-returns
-returns c = let s = c .before .before .before .before .before .before .before .before .before .before .before .before .before .before .before in
-    let w = whole (c .before .before .before .before .before .before) in
-    let d = c .before .before .before .before .before .before .before .before .before .before .deliver-whole .ensures .whole w in
+returns c =
+    let t = c .before .before .before .before .before .before in
+    let d = D (t .before) in
+    let bytes = S d .args .bytes .now in
+    let area = S d .args .packet .now in
+    let j = d .deliver-whole .ensures .whole (whole t) in
     let e = c .before .before .before .settle .ensures in
-    rw (c .found .ensures, e .0, e .1, e .2) (reached-found fresh (s .args .bytes .now) (s .args .packet .now) (whole-found (s .args .bytes .now) (s .args .packet .now) _ _ (d .0) w (d .1)))
+    rw (c .found .ensures, e .0, e .1, e .2) (reached-found fresh bytes area (whole-found bytes area _ _ (j .0) (whole t) (j .1)))
 
 slice-write-line : tie.Need-slice-write-line
-slice-write-line c = omega (arith, clean-long _ (c .before .before .before .before .before .before .before .before .before .pre .0))
+slice-write-line c = omega (arith, clean-long _ (S (D (c .before)) .pre .0))
 
 sub-from-opened : tie.Need-sub-from-opened
 sub-from-opened c = search needs
@@ -77,10 +95,13 @@ part-from-opened-end c = search needs
 
 from-opened-requires : tie.Need-from-opened-requires
 unfolding stateBytes
-from-opened-requires c κs = set-phase _ 2 (c .before .before .before .before .before .before .before .before .before .before .before .pre .0)
+from-opened-requires c κs = set-phase _ 2 (S (D (c .before .before .before)) .pre .0)
 
 add-t21 : tie.Need-add-t21
-add-t21 c = let s = c .before .before .before .before .before .before .before .before .before .before .before .before .before .before .before in omega (arith, inner (c .before .before .before) .fits, length-drop 1 (s .args .bytes .now), s .pre .1)
+add-t21 c =
+    let k = c .before .before .before in
+    let s = O k in
+    omega (arith, inner k .fits, length-drop 1 (s .args .bytes .now), s .pre .1)
 
 same-length-3 : tie.Need-same-length-3
 same-length-3 c = c .before .before .before .from-opened .kept .0 ∙ simp length-set
@@ -89,8 +110,11 @@ same-length-4 : tie.Need-same-length-4
 same-length-4 c = search needs
 
 returns-2 : tie.Need-returns-2
-returns-2 c = let s = c .before .before .before .before .before .before .before .before .before .before .before .before .before .before .before in
-    rw (kept (c .before .before .before .before .before .before)) (reached-later 1 fresh opened (s .args .bytes .now) (s .args .packet .now) (s .pre .1) (fresh-start (s .args .bytes .now) (s .pre .1) (s .pre .2)) (inner (c .before .before .before)))
+returns-2 c =
+    let k = c .before .before .before in
+    let s = O k in
+    let bytes = s .args .bytes .now in
+    rw (kept (Past k)) (reached-later 1 fresh opened bytes (s .args .packet .now) (s .pre .1) (fresh-start bytes (s .pre .1) (s .pre .2)) (inner k))
 
 pub from-zero-spec : {M : Type 1} → statement M
 from-zero-spec =

@@ -1,5 +1,4 @@
 -- `is_whole` tests both ways in turn.
-use mathlib.Core.Path.{_≡_, refl, sym, ap, _∙_}
 use borrow.Author.Tests.{eq-eqb, ne-eqb}
 use Rattle.packet_line.proofs.phases.is_whole.Statement.{statement}
 use Rattle.packet_line.proofs.phases.is_whole.Tie as tie

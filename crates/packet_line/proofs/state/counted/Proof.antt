@@ -1,5 +1,4 @@
 -- `counted` tests the byte.
-use mathlib.Core.Path.{_∙_}
 use borrow.Author.Tests.{eq-eqb, ne-eqb}
 use borrow.Author.Needs.{needs}
 use Rattle.packet_line.proofs.state.counted.Statement.{statement}

@@ -1,11 +1,11 @@
 -- `first_zero` meets its contract. The loop's invariant: no 00 among the first i, which are no more than stand before the first.
-use Prim.Native.Nat.{ℕ, _+_, _-_, _≤_, _<_}
+use Prim.Native.Nat.{ℕ, _-_, _≤_, _<_}
 use mathlib.Core.Path.{_≡_, refl, sym, ap, _∙_}
 use mathlib.Core.Bool.{false}
 use mathlib.Core.Logic.{⊎-elim}
 use native.Mathlib.Nat.{eq-or-lt-of-le}
 use native.Mathlib.Omega.{arith}
-use lib.ListN.{length, getD, take}
+use lib.ListN.{getD, take}
 use borrow.Author.Needs.{needs}
 use Rattle.wire.specs.Zero.{hasZero, zeroAt}
 use Rattle.wire.proofs.Zeros.{zero-passed, zero-first, zero-there}

@@ -52,17 +52,23 @@ shared-slice-read-is-marked : tie.Need-shared-slice-read-is-marked
 shared-slice-read-is-marked c = search needs
 
 is-marked-requires : tie.Need-is-marked-requires
-is-marked-requires c κs = let s = c .before .before .before .before .before .before .before .before .before in
+is-marked-requires c κs =
+    let l3 = c .before .before in
+    let l1 = l3 .before .before .before in
+    let s = l1 .before .before .before .before in
     let line = s .args .line .now in
-    let top = c .before .before .before .before .before .before .before .shared-slice-known2 .given 3 in
+    let top = l1 .before .before .shared-slice-known2 .given 3 in
     let n : length (take (length line - 3) (drop 3 line)) ≡ 256 = ap length (rest-of line 3) ∙ omega (arith, length-drop 3 line, s .pre .0) in
-    (omega (arith, n, top, c .before .before .if3 .left), omega (arith, n))
+    (omega (arith, n, top, l3 .if3 .left), omega (arith, n))
 
 returns-4 : tie.Need-returns-4
-returns-4 c = let s = c .before .before .before .before .before .before .before .before .before .before in
-    let top = c .before .before .before .before .before .before .before .before .shared-slice-known2 .given 3 in
-    c .is-marked .ensures
-    ∙ inside-test (s .args .line .now) (s .pre .0) (s .pre .1) (c .before .before .before .before .before .before .if1 .left) (c .before .before .before .before .before .if2 .left) (omega arith) (c .before .before .before .if3 .left)
+returns-4 c =
+    let l3 = c .before .before .before in
+    let l2 = l3 .before .before in
+    let l1 = l2 .before in
+    let s = l1 .before .before .before .before in
+    let top = l1 .before .before .shared-slice-known2 .given 3 in
+    c .is-marked .ensures ∙ inside-test (s .args .line .now) (s .pre .0) (s .pre .1) (l1 .if1 .left) (l2 .if2 .left) (omega arith) (l3 .if3 .left)
 
 pub is-inside-spec : {M : Type 1} → statement M
 is-inside-spec =

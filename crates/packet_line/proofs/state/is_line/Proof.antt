@@ -1,6 +1,5 @@
 -- `is_line` tests the length and the phase, then zeros or the state of a part.
-use mathlib.Core.Path.{_≡_, sym, ap, _∙_}
-use native.Mathlib.Omega.{arith}
+use mathlib.Core.Path.{_∙_}
 use borrow.Author.Needs.{needs}
 use Rattle.packet_line.proofs.Judging.{no-line, line-long, clean-test, phase-line}
 use Rattle.packet_line.proofs.state.is_line.Statement.{statement}
@@ -25,7 +24,11 @@ is-zero-requires : tie.Need-is-zero-requires
 is-zero-requires c κs = search needs
 
 returns-2 : tie.Need-returns-2
-returns-2 c = let s = c .before .before .before .before .before .before in c .is-zero .ensures ∙ clean-test (s .args .line .now) (c .before .before .before .before .if1 .left) (c .before .before .if2 .taken)
+returns-2 c =
+    let t = c .before .before in
+    let l = t .before .before in
+    let s = l .before .before in
+    c .is-zero .ensures ∙ clean-test (s .args .line .now) (l .if1 .left) (t .if2 .taken)
 
 shared-slice-read-if3 : tie.Need-shared-slice-read-if3
 shared-slice-read-if3 c = search needs

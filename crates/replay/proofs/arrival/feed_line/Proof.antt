@@ -35,7 +35,9 @@ loop-less : tie.Need-loop-less Inv-loop μ-loop
 loop-less c = let fits = within (c .before .before .before .before .before .before .before .before .before .before .before .before .before .before .before .before) in search needs
 
 loop-again : tie.Need-loop-again Inv-loop μ-loop
-loop-again c = let fits = within (c .before .before .before .before .before .before .before .before .before .before .before .before .before .before .before .before) in (search needs, search needs, search needs, search needs, search needs)
+loop-again c =
+    let fits = within (c .before .before .before .before .before .before .before .before .before .before .before .before .before .before .before .before) in
+    (search needs, search needs, search needs, search needs, search needs)
 
 pub feed-line-spec : {M : Type 1} → statement M
 feed-line-spec =
