@@ -2,6 +2,7 @@ pub mod Codes
 pub mod Items
 pub mod RowBound
 pub mod Complete
+pub mod Says
 pub mod Sound
 pub mod Same
 pub mod OneImage

@@ -1,5 +1,5 @@
 -- What is read is a legal list, and its bytes are those at the front; a fault is never past the end.
--- Both are shown at once: `Judged` says what holds of an answer, good or bad, and goes through each step of reading.
+-- Both are shown at once, through each step of reading: `Judged` says what holds of an answer, good or bad.
 use Prim.Native.Nat.{ℕ, zero, suc, _+_, _-_, _^_, _≤_, _<_}
 use mathlib.Core.Path.{_≡_, refl, sym, ap, _∙_}
 use mathlib.Core.Bool.{Bool, true, false, not, cond, _&&_, _||_}
@@ -29,7 +29,8 @@ use Rattle.list.specs.Strings.{terminator, stringLength, stringSize, neg
 use Rattle.list.specs.Parse.{Parsed, good, bad, andThen, afterItem, word, itemFault}
 use Rattle.list.specs.Parse.{stringAt, blobAt, valueAt, typedAt, isListCode, codedValue, codedAt, mixedAt, elementsAt, listAt, parse}
 use Rattle.list.proofs.Codes.{code-of-kind}
-use Rattle.list.proofs.Items.{bytes-take, bytes-drop, fault-fits}
+use Rattle.list.proofs.Items.{bytes-take, bytes-drop}
+use Rattle.list.proofs.Says.{Says, test, next-step, after-item, weaken}
 
 -- a closed run is a string's bytes
 pub zero-none : (bs : List ℕ) → hasZero bs ≡ false → NoZero bs
@@ -98,29 +99,11 @@ module _ (limit : ℕ) (s : List ℕ) where
 
   -- what holds of an answer: G of what was read and the offset behind it; a refusal is sane
   abbrev Judged : {A : Type 0} → (A → ℕ → Type 0) → Parsed A → Type 0
-  Judged G (good a next) = G a next
-  Judged G (bad r) = SaneRefusal s r
+  Judged G = Says G (SaneRefusal s)
 
-  after-item : {A : Type 0} (G : A → ℕ → Type 0) (at n : ℕ) (p : Parsed A) → at ≤ length s
+  item-read : {A : Type 0} (G : A → ℕ → Type 0) (at n : ℕ) (p : Parsed A) → at ≤ length s
       → (at + n ≤ limit → at + n ≤ length s → Judged G p) → Judged G (afterItem (itemFault limit s at n) at p)
-  after-item {A} G at n p h go = by (itemFault limit s at n) refl
-    where
-      by : (fault : ℕ) → itemFault limit s at n ≡ fault → Judged G (afterItem fault at p)
-      by zero e = let f = fault-fits limit s at n e in go (f .0) (f .1)
-      by (suc fault) e = let n = fault-number limit s at n fault e in record { low = n .0; high = n .1; inside = h }
-
-  test : {A : Type 0} (G : A → ℕ → Type 0) (b : Bool) (p q : Parsed A) → (b ≡ true → Judged G p) → (b ≡ false → Judged G q) → Judged G (cond b p q)
-  test G true p q x y = x refl
-  test G false p q x y = y refl
-
-  next-step : {A B : Type 0} (G : A → ℕ → Type 0) (H : B → ℕ → Type 0) (p : Parsed A) (go : A → ℕ → Parsed B) → Judged G p
-      → ((a : A) (next : ℕ) → G a next → Judged H (go a next)) → Judged H (andThen p go)
-  next-step G H (good a next) go h f = f a next h
-  next-step G H (bad r) go h f = h
-
-  weaken : {A : Type 0} (G H : A → ℕ → Type 0) (p : Parsed A) → Judged G p → ((a : A) (next : ℕ) → G a next → H a next) → Judged H p
-  weaken G H (good a next) h f = f a next h
-  weaken G H (bad r) h f = h
+  item-read G at n p h go = after-item limit s G (SaneRefusal s) at n p (λ fault e. sane (suc fault) at h (fault-number limit s at n fault e)) go
 
   -- spans one behind the other
   join : (at mid next : ℕ) (xs ys : List ℕ) → Span at xs mid → Span mid ys next → Span at (xs ++ ys) next
@@ -185,19 +168,19 @@ module _ (limit : ℕ) (s : List ℕ) where
   string-read : (at : ℕ) → at ≤ length s → Judged (IsValue Str at) (stringAt limit s at)
   unfolding stringAt
   string-read at h =
-      after-item _ at 4 _ h (λ f₄ i₄.
-      test _ (badLength (word s at)) _ _ (λ e. sane 25 at h (omega arith)) (λ e.
-      after-item _ (at + 4) (word s at) _ i₄ (λ f i.
-      test _ (closed (take (word s at) (drop (at + 4) s))) _ _
+      item-read _ at 4 _ h (λ f₄ i₄.
+      test _ _ (badLength (word s at)) _ _ (λ e. sane 25 at h (omega arith)) (λ e.
+      item-read _ (at + 4) (word s at) _ i₄ (λ f i.
+      test _ _ (closed (take (word s at) (drop (at + 4) s))) _ _
       (λ c. is-string at (word s at) e (a-number at f₄ i₄) f i c)
       (λ c. sane 25 (at + 4) i₄ (omega arith)))))
 
   blob-read : (at : ℕ) → at ≤ length s → Judged (IsValue Blob at) (blobAt limit s at)
   unfolding blobAt
   blob-read at h =
-      after-item _ at 4 _ h (λ f₄ i₄.
-      test _ (negative (word s at)) _ _ (λ e. sane 25 at h (omega arith)) (λ e.
-      after-item _ (at + 4) (word s at) _ i₄ (λ f i. record {
+      item-read _ at 4 _ h (λ f₄ i₄.
+      test _ _ (negative (word s at)) _ _ (λ e. sane 25 at h (omega arith)) (λ e.
+      item-read _ (at + 4) (word s at) _ i₄ (λ f i. record {
         of-kind = refl;
         legal = λ all. bytes-take (word s at) (drop (at + 4) s) (bytes-drop (at + 4) s all);
         span = spells-as at (at + 4 + word s at) _ _
@@ -207,11 +190,11 @@ module _ (limit : ℕ) (s : List ℕ) where
 
   value-read : (k : Kind) (at : ℕ) → at ≤ length s → Judged (IsValue k at) (valueAt limit s at k)
   unfolding valueAt
-  value-read Int at h = after-item _ at 4 _ h (λ f i. record { of-kind = refl; legal = word-small at i; span = a-number at f i })
-  value-read Vocab at h = after-item _ at 4 _ h (λ f i. record { of-kind = refl; legal = word-small at i; span = a-number at f i })
+  value-read Int at h = item-read _ at 4 _ h (λ f i. record { of-kind = refl; legal = word-small at i; span = a-number at f i })
+  value-read Vocab at h = item-read _ at 4 _ h (λ f i. record { of-kind = refl; legal = word-small at i; span = a-number at f i })
   value-read Float at h =
       let e : at + 4 + 4 ≡ at + 8 = omega arith in
-      after-item _ at 8 _ h (λ f i. record {
+      item-read _ at 8 _ h (λ f i. record {
         of-kind = refl;
         legal = λ all. (word-small at (omega arith) all, word-small (at + 4) (omega arith) all);
         span = join at (at + 4) (at + 8) (number (word s at)) (number (word s (at + 4)))
@@ -244,8 +227,8 @@ module _ (limit : ℕ) (s : List ℕ) where
   unfolding typedAt
   typed-read d code k bare zero at f i = no-elements d code at f i
   typed-read d code k bare (suc n) at f i =
-      next-step _ _ (valueAt limit s at k) _ (value-read k at i) (λ v mid a.
-      next-step _ _ (typedAt limit s k n mid) _ (typed-read d code k bare n mid (a .span .fits) (a .span .inside)) (λ es next r.
+      next-step _ _ _ (valueAt limit s at k) _ (value-read k at i) (λ v mid _ a.
+      next-step _ _ _ (typedAt limit s k n mid) _ (typed-read d code k bare n mid (a .span .fits) (a .span .inside)) (λ es next _ r.
       add-value d code at mid n next v es (a .legal) (rw bare (a .span)) r))
 
   -- an element of a 256 list was read: `put` puts it before others
@@ -278,7 +261,7 @@ module _ (limit : ℕ) (s : List ℕ) where
       → Judged (IsElement d at) (codedValue limit s at found)
   coded-value d at Unknown e f i h = sane 26 at h (omega arith)
   coded-value d at (Is k) e f i h =
-      next-step _ _ (valueAt limit s (at + 4) k) _ (value-read k (at + 4) i) (λ v mid a.
+      next-step _ _ _ (valueAt limit s (at + 4) k) _ (value-read k (at + 4) i) (λ v mid _ a.
       let c : word s at ≡ codeOf (kind v) = code-of-kind (word s at) k e ∙ ap codeOf (sym (a .of-kind)) in
       let b : Span at (number (codeOf (kind v)) ++ valueBytes v) mid =
       spells-as at mid _ _ (ap (λ (w : ℕ). number w ++ valueBytes v) c) (join at (at + 4) mid (number (word s at)) (valueBytes v) (a-number at f i) (a .span)) in
@@ -288,9 +271,9 @@ module _ (limit : ℕ) (s : List ℕ) where
       → Judged (IsElement d at) (codedAt inner limit s at)
   unfolding codedAt
   coded-read d inner reads at h =
-      after-item _ at 4 _ h (λ f i.
-      test _ (isListCode (word s at)) _ _
-      (λ c. next-step _ _ (inner at (word s at)) _ (reads at (word s at) c f i) (λ es mid w.
+      item-read _ at 4 _ h (λ f i.
+      test _ _ (isListCode (word s at)) _ _
+      (λ c. next-step _ _ _ (inner at (word s at)) _ (reads at (word s at) c f i) (λ es mid _ w.
       (w .span .fits, w .span .inside, λ n next fs r. add-list d at mid n next es fs (a-number at f i) w r)))
       (λ c. coded-value d at (kindOf (word s at)) refl f i h))
 
@@ -299,8 +282,8 @@ module _ (limit : ℕ) (s : List ℕ) where
   unfolding mixedAt
   mixed-read d inner reads zero at f i = no-elements d listCode at f i
   mixed-read d inner reads (suc n) at f i =
-      next-step _ _ (codedAt inner limit s at) _ (coded-read d inner reads at i) (λ put mid a.
-      next-step _ _ (mixedAt inner limit s n mid) _ (mixed-read d inner reads n mid (a .0) (a .1)) (λ es next r.
+      next-step _ _ _ (codedAt inner limit s at) _ (coded-read d inner reads at i) (λ put mid _ a.
+      next-step _ _ _ (mixedAt inner limit s n mid) _ (mixed-read d inner reads n mid (a .0) (a .1)) (λ es next _ r.
       a .2 n next es r))
 
   elements-read : (d : ℕ) (inner : ℕ → ℕ → Parsed Elements) → ReadsLists d inner → (code : ℕ) → isListCode code ≡ true
@@ -314,11 +297,11 @@ module _ (limit : ℕ) (s : List ℕ) where
   list-read zero at code c f i = sane 27 at (omega arith) (omega arith)
   list-read (suc d) at code c f i =
       let e₈ : at + 4 + 4 ≡ at + 8 = omega arith in
-      after-item _ (at + 4) 4 _ i (λ f₄ i₄.
-      test _ (negative (word s (at + 4))) _ _ (λ e. sane 23 (at + 4) i (omega arith)) (λ e.
-      next-step _ _ (elementsAt (listAt d limit s) limit s (kindOf (code - listCode)) (word s (at + 4)) (at + 8)) _
+      item-read _ (at + 4) 4 _ i (λ f₄ i₄.
+      test _ _ (negative (word s (at + 4))) _ _ (λ e. sane 23 (at + 4) i (omega arith)) (λ e.
+      next-step _ _ _ (elementsAt (listAt d limit s) limit s (kindOf (code - listCode)) (word s (at + 4)) (at + 8)) _
       (elements-read d (listAt d limit s) (list-read d) code c (kindOf (code - listCode)) refl (word s (at + 4)) (at + 8) (omega arith) (omega arith))
-      (λ es next r. test _ (eqb code (listCodeOf es)) _ _
+      (λ es next _ r. test _ _ (eqb code (listCodeOf es)) _ _
       (λ q. record {
         legal = r .legal;
         code-is = eqb-true _ _ q;
@@ -335,9 +318,9 @@ module _ (limit : ℕ) (s : List ℕ) where
   parse-read : Judged IsWhole (parse limit s)
   unfolding parse listBytes
   parse-read =
-      after-item _ 0 4 _ (omega arith) (λ f i.
-      test _ (isListCode (word s 0)) _ _
-      (λ c. weaken (IsList depthLimit 0 (word s 0)) IsWhole (listAt depthLimit limit s 0 (word s 0)) (list-read depthLimit 0 (word s 0) c f i) (λ es next w. record {
+      item-read _ 0 4 _ (omega arith) (λ f i.
+      test _ _ (isListCode (word s 0)) _ _
+      (λ c. weaken (IsList depthLimit 0 (word s 0)) IsWhole _ (listAt depthLimit limit s 0 (word s 0)) (list-read depthLimit 0 (word s 0) c f i) (λ es next w. record {
         legal = w .legal;
         span = spells-as 0 next _ _ (ap (λ (k : ℕ). number k ++ (number (count es) ++ elementBytes k es)) (w .code-is))
             (join 0 4 next (number (word s 0)) (number (count es) ++ elementBytes (word s 0) es) (a-number 0 f i) (w .span));

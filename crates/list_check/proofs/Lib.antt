@@ -1,7 +1,6 @@
 pub mod Told
 pub mod Zero
 pub mod Codes
-pub mod Gives
 pub mod KindRead
 pub mod Typed
 pub mod Mixed
