@@ -52,3 +52,6 @@ function slot(hex, i,    from, p, held) {
 echo
 echo "The posted lists, end to end, read by the run program (the first and the last lines):"
 target/bin/run < "$posted" | sed -n '1,2p;$p'
+echo
+echo "The same with the last three bytes lost: the number of the refusal, its place, and how many lists are open there:"
+head -c -3 "$posted" | target/bin/run | tail -n 1

@@ -56,14 +56,14 @@ cinder_packet_result cinder_packet_decode(const uint8_t *bytes, size_t bytes_len
 #define CINDER_STORE_ROOM 4096
 
 typedef struct {
-    uint64_t error, consumed, rows, offset, stored;
+    uint64_t error, consumed, rows, offset, stored, depth;
 } cinder_list_result;
 
 /*
  * Reads the list at the front of `bytes`; later bytes are ignored.
  *
- * On success error and offset are 0, consumed is the size of the list in bytes, rows is
- * the number of its rows and stored the number of store bytes in use. The rows stand at
+ * On success error, offset and depth are 0, consumed is the size of the list in bytes, rows
+ * is the number of its rows and stored the number of store bytes in use. The rows stand at
  * the front of `rows`: 12 bytes each, three numbers of 32 bits, in the order of the list's
  * bytes, so a list before its elements and all of an element before the next:
  *
@@ -79,8 +79,8 @@ typedef struct {
  * the store bytes in use are what cinder_list_encode asks to write the list again.
  *
  * On an error consumed, rows and stored are 0 and both areas are as they were. Error is
- * 20 at offset 0 or else the first fault from the front, and offset is where the item at
- * fault begins:
+ * 20 at offset 0 or else the first fault from the front, offset is where the item at fault
+ * begins, and depth is the number of lists that are open at the fault:
  *
  *   20  rows_len is below CINDER_ROWS_ROOM, or store_len is below CINDER_STORE_ROOM
  *
@@ -99,6 +99,10 @@ typedef struct {
  *   24  a typed list of 0 elements, judged at its count, or a 256 list of at least one
  *       element, all of one kind other than list, judged after the last; the offset is
  *       that of the list's code
+ *
+ * A list is open from its count to the end of its last element. So depth is 0 for 20 and at
+ * the outermost code, 1 at the outermost count, and 8 for 27. For 24 it is the depth of the
+ * list at fault, 1 for the outermost, whenever that is judged.
  */
 cinder_list_result cinder_list_decode(const uint8_t *bytes, size_t bytes_len, uint8_t *rows, size_t rows_len, uint8_t *store, size_t store_len);
 
@@ -109,7 +113,7 @@ cinder_list_result cinder_list_decode(const uint8_t *bytes, size_t bytes_len, ui
  * On success the answer and both areas are as cinder_list_decode has them for the bytes
  * from `offset` on.
  *
- * At the end of the stream, where offset is bytes_len, all five numbers are 0 and both
+ * At the end of the stream, where offset is bytes_len, all six numbers are 0 and both
  * areas are as they were. No other answer has error 0 and consumed 0. Only error 20 is
  * judged before the end.
  *
@@ -117,11 +121,11 @@ cinder_list_result cinder_list_decode(const uint8_t *bytes, size_t bytes_len, ui
  * the first of these, in this order:
  *
  *   20  rows_len is below CINDER_ROWS_ROOM, or store_len is below CINDER_STORE_ROOM; its
- *       offset is 0
- *   21  offset is above bytes_len; its offset is that offset
+ *       offset and depth are 0
+ *   21  offset is above bytes_len; its offset is that offset, and its depth is 0
  *
- * or the error of cinder_list_decode for the bytes from `offset` on, its offset counted
- * from the front of `bytes`.
+ * or the error and the depth of cinder_list_decode for the bytes from `offset` on, its offset
+ * counted from the front of `bytes`.
  */
 cinder_list_result cinder_stream_next(const uint8_t *bytes, size_t bytes_len, uint64_t offset, uint8_t *rows, size_t rows_len, uint8_t *store, size_t store_len);
 
@@ -357,7 +361,7 @@ typedef struct {
 cinder_text_result cinder_text_decode(const uint8_t *text, size_t text_len, uint8_t *rows, size_t rows_len, uint8_t *store, size_t store_len);
 
 typedef struct {
-    uint64_t error, list, offset, length;
+    uint64_t error, list, offset, length, depth;
 } cinder_setting_result;
 
 /*
@@ -367,9 +371,9 @@ typedef struct {
  * strings, the key and the value; all other elements are passed over. The key may be any
  * bytes, also none; one with a zero in it is in no list.
  *
- * On success error is 0, list is 1 for the guest's list and 2 for the house list, and offset
- * and length say where the value's bytes stand in that area, without the closing zero. They
- * are not copied, and no area is written.
+ * On success error and depth are 0, list is 1 for the guest's list and 2 for the house list,
+ * and offset and length say where the value's bytes stand in that area, without the closing
+ * zero. They are not copied, and no area is written.
  *
  * On an error length is 0, and error is the first of these, in this order:
  *
@@ -378,8 +382,8 @@ typedef struct {
  *   21 to 29  the house list, in the same way, also where the guest's list has the key
  *   33  neither list has an entry with the key
  *
- * For 21 to 29 list says which list it is, and offset counts from the front of that area.
- * For 33 list and offset are 0.
+ * For 21 to 29 list says which list it is, offset counts from the front of that area, and
+ * depth is as cinder_list_decode gives it, 0 for 29. For 33 list, offset and depth are 0.
  */
 cinder_setting_result cinder_setting_find(const uint8_t *guest, size_t guest_len, const uint8_t *house, size_t house_len, const uint8_t *key, size_t key_len);
 

@@ -22,19 +22,37 @@ EOF
 expect 'two lists and 00 00' <<EOF
 list 1 bytes 40 rows 9
 list 2 bytes 72 rows 10
-stop 21 at 112
+stop 21 at 112 depth 0
 EOF
 
 { primes; two_lists 170; primes; } >"$room/in"
 expect 'a string that does not end in zero' <<EOF
 list 1 bytes 40 rows 9
-stop 25 at 80
+stop 25 at 80 depth 2
 EOF
 
 { two_lists 000; words 256 1 1 5; primes; } >"$room/in"
 expect 'a list of one kind that is not typed' <<EOF
 list 1 bytes 72 rows 10
-stop 24 at 72
+stop 24 at 72 depth 1
+EOF
+
+{ primes; words 256 2 256 2 256 0 256 1 1 5; } >"$room/in"
+expect 'a nested list of one kind that is not typed' <<EOF
+list 1 bytes 40 rows 9
+stop 24 at 64 depth 3
+EOF
+
+{ primes; words 256 2 256; } >"$room/in"
+expect 'a nested list without its count' <<EOF
+list 1 bytes 40 rows 9
+stop 21 at 52 depth 2
+EOF
+
+{ primes; words 256 2 256 1 256 0 7; } >"$room/in"
+expect 'an unknown code behind nested lists' <<EOF
+list 1 bytes 40 rows 9
+stop 26 at 64 depth 1
 EOF
 
 { primes; words 256 1 256 1 256 1 256 1 256 1 256 1 256 1 256 0; } >"$room/in"
@@ -47,7 +65,7 @@ EOF
 { primes; words 256 1 256 1 256 1 256 1 256 1 256 1 256 1 256 1 256 0; } >"$room/in"
 expect 'nine nested lists' <<EOF
 list 1 bytes 40 rows 9
-stop 27 at 104
+stop 27 at 104 depth 8
 EOF
 
 # a list of 1,022 numbers has 4,096 bytes, and eight of them 32,768
@@ -75,7 +93,7 @@ EOF
 { primes; words 257 1023; cat "$room/numbers"; } >"$room/in"
 expect 'a list of 1,023 numbers' <<EOF
 list 1 bytes 40 rows 9
-stop 28 at 4136
+stop 28 at 4136 depth 1
 EOF
 
 words 256 0 >"$room/in"

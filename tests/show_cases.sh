@@ -22,7 +22,7 @@ EOF
 expect 'the examples and 00 00' <<'EOF'
 2 3 5 7 11 13 17 19
 (91 92 93) ("this" "is" "a" "good list")
-stop 21 at 112
+stop 21 at 112 depth 0
 EOF
 
 # an int, a vocab, a float, a string, a blob and an empty list
@@ -86,7 +86,7 @@ EOF
 { primes; words 256 1 256 1 256 1 256 1 256 1 256 1 256 1 256 1 256 0; } >"$room/in"
 expect 'nine nested lists' <<'EOF'
 2 3 5 7 11 13 17 19
-stop 27 at 104
+stop 27 at 104 depth 8
 EOF
 
 # a blob of 4,084 bytes of 200 has the longest text, 16,337 characters; eight such lists are 32,768 bytes
@@ -115,7 +115,7 @@ awk 'BEGIN {
     line = "-2147483648"
     for (at = 2; at <= 1022; at++) line = line " -2147483648"
     print line
-    print "stop 28 at 8192"
+    print "stop 28 at 8192 depth 1"
 }' >"$room/lines"
 expect 'lists of 1,022 and of 1,023 numbers' <"$room/lines"
 

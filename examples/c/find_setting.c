@@ -31,8 +31,8 @@ static void show(const char *key, size_t guest_length)
     if (r.error == IN_NEITHER)
         printf("%s is in %s\n", key, names[r.list]);
     else if (r.error != 0)
-        printf("%s is refused: %llu in %s at %llu\n", key, (unsigned long long)r.error,
-               names[r.list], (unsigned long long)r.offset);
+        printf("%s is refused: %llu in %s at %llu depth %llu\n", key, (unsigned long long)r.error,
+               names[r.list], (unsigned long long)r.offset, (unsigned long long)r.depth);
     else /* The value is that part of the list itself, not a copy. */
         printf("%s is \"%.*s\" in %s\n", key, (int)r.length, lists[r.list] + r.offset,
                names[r.list]);

@@ -14,14 +14,15 @@ static void check_answer(cinder_list_result found, cinder_list_result owed, cons
     check(found.rows == owed.rows, name, "rows");
     check(found.offset == owed.offset, name, "offset");
     check(found.stored == owed.stored, name, "stored");
+    check(found.depth == owed.depth, name, "depth");
 }
 
 static void decode_into(const struct list_case *given, size_t rows_room, size_t store_room)
 {
     static const cinder_list_result too_small = {.error = 20};
     int large_enough = rows_room >= ROWS_ROOM && store_room >= STORE_ROOM;
-    cinder_list_result owed = {given->error, given->consumed, given->row_count, given->offset,
-                               given->store_length};
+    cinder_list_result owed = {given->error,  given->consumed,     given->row_count,
+                               given->offset, given->store_length, given->depth};
     size_t length;
     uint8_t *bytes = list_bytes(given, &length);
     uint8_t *wanted_rows = list_rows(given);
@@ -53,7 +54,8 @@ static void check_table(void)
                 decode_into(&list_cases[at], rows_rooms[row], store_rooms[store]);
 }
 
-/* Every beginning of an accepted list ends inside an item and leaves the buffers alone. */
+/* Every beginning of an accepted list ends inside an item, at the depth that is counted there,
+ * and leaves the buffers alone. */
 static void check_cut(const struct list_case *given)
 {
     for (size_t there = 0; there < given->consumed; there++) {
@@ -67,6 +69,8 @@ static void check_cut(const struct list_case *given)
         check(found.error == 21 && found.consumed == 0 && found.rows == 0 && found.stored == 0,
               given->name, "cut");
         check(found.offset <= there, given->name, "offset of the cut");
+        check(found.offset <= there && found.depth == lists_open(bytes, found.offset),
+              given->name, "depth of the cut");
         check(holds(rows, ROWS_ROOM, NULL, 0), given->name, "rows buffer when cut");
         check(holds(store, STORE_ROOM, NULL, 0), given->name, "store buffer when cut");
         free(store);
@@ -113,18 +117,18 @@ static void check_blob_up_to(uint32_t end, uint32_t count, cinder_list_result ow
 static void check_limit(void)
 {
     static const cinder_list_result full = {.consumed = 4096, .rows = 1023};
-    static const cinder_list_result beyond = {.error = 28, .offset = 4096};
+    static const cinder_list_result beyond = {.error = 28, .offset = 4096, .depth = 1};
     check_ints(1022, 4096, full, "1,022 ints");
     check_ints(1022, 4100, full, "1,022 ints and later bytes");
     check_ints(1023, 4100, beyond, "1,023 ints");
     check_ints(1023, 4096, beyond, "1,023 ints, the last not there");
-    check_ints(1023, 4092, (cinder_list_result){.error = 21, .offset = 4092},
+    check_ints(1023, 4092, (cinder_list_result){.error = 21, .offset = 4092, .depth = 1},
                "1,023 ints, two not there");
     check_ints(0x7fffffff, 5000, beyond, "as many ints as a count can say");
-    check_blob_up_to(4096, 1, (cinder_list_result){.error = 24});
+    check_blob_up_to(4096, 1, (cinder_list_result){.error = 24, .depth = 1});
     check_blob_up_to(4096, 2, beyond);
-    check_blob_up_to(4093, 2, (cinder_list_result){.error = 28, .offset = 4093});
-    check_blob_up_to(4092, 2, (cinder_list_result){.error = 21, .offset = 4092});
+    check_blob_up_to(4093, 2, (cinder_list_result){.error = 28, .offset = 4093, .depth = 1});
+    check_blob_up_to(4092, 2, (cinder_list_result){.error = 21, .offset = 4092, .depth = 1});
 }
 
 /* "A pointer with length 0 may be null." */

@@ -59,6 +59,7 @@ static void look_up(struct bytes guest, struct bytes house, struct bytes key,
     check(found.list == owed.list, name, "list");
     check(found.offset == owed.offset, name, "offset");
     check(found.length == owed.length, name, "length");
+    check(found.depth == owed.depth, name, "depth");
     check(holds(given_guest, guest.length, guest.at, guest.length), name, "guest's area");
     check(holds(given_house, house.length, house.at, house.length), name, "house area");
     check(holds(given_key, key.length, key.at, key.length), name, "key's area");
@@ -75,10 +76,10 @@ static void check_keys(void)
         struct bytes key;
         cinder_setting_result owed, exchanged;
     } cases[] = {
-        {"in both", BYTES("lamp"), {0, GUEST, 29, 2}, {0, GUEST, 29, 3}},
-        {"in one", BYTES("cups"), {0, GUEST, 53, 1}, {0, HOUSE, 53, 1}},
-        {"with an empty value", BYTES("door"), {0, HOUSE, 54, 0}, {0, GUEST, 54, 0}},
-        {"empty key", BYTES(""), {0, HOUSE, 72, 8}, {0, GUEST, 72, 8}},
+        {"in both", BYTES("lamp"), {0, GUEST, 29, 2, 0}, {0, GUEST, 29, 3, 0}},
+        {"in one", BYTES("cups"), {0, GUEST, 53, 1, 0}, {0, HOUSE, 53, 1, 0}},
+        {"with an empty value", BYTES("door"), {0, HOUSE, 54, 0, 0}, {0, GUEST, 54, 0, 0}},
+        {"empty key", BYTES(""), {0, HOUSE, 72, 8, 0}, {0, GUEST, 72, 8, 0}},
         {"in neither", BYTES("seat"), {.error = 33}, {.error = 33}},
         {"a value", BYTES("on"), {.error = 33}, {.error = 33}},
         {"the beginning of a key", BYTES("lam"), {.error = 33}, {.error = 33}},
@@ -144,18 +145,18 @@ static void check_others(void)
         struct bytes behind = pair(behind_area, entry, other);
         struct bytes alone = pair(alone_area, other, empty);
         uint64_t offset = HEADER + other.length + 18;
-        look_up(before, empty, key, (cinder_setting_result){0, GUEST, offset, 3}, name);
-        look_up(alone, before, key, (cinder_setting_result){0, HOUSE, offset, 3}, name);
-        look_up(behind, before, key, (cinder_setting_result){0, GUEST, 26, 3}, name);
+        look_up(before, empty, key, (cinder_setting_result){0, GUEST, offset, 3, 0}, name);
+        look_up(alone, before, key, (cinder_setting_result){0, HOUSE, offset, 3, 0}, name);
+        look_up(behind, before, key, (cinder_setting_result){0, GUEST, 26, 3, 0}, name);
         look_up(alone, alone, key, in_neither, name);
     }
     /* The outermost list of two strings is no element. */
     look_up(strings, strings, key, in_neither, "two strings");
     look_up(strings, pair(behind_area, entry, empty), key,
-            (cinder_setting_result){0, HOUSE, 26, 3}, "two strings");
+            (cinder_setting_result){0, HOUSE, 26, 3, 0}, "two strings");
     /* The first of two entries counts. */
     look_up(pair(before_area, entry, AREA(ENTRY TEXT("\2", "k") TEXT("\2", "v"))), empty, key,
-            (cinder_setting_result){0, GUEST, 26, 3}, "two entries");
+            (cinder_setting_result){0, GUEST, 26, 3, 0}, "two entries");
 }
 
 /* The answer where this case is the list of an area: its error, or 29 for bytes behind it. */
@@ -163,9 +164,9 @@ static cinder_setting_result owed_for(const struct list_case *given, size_t leng
                                       cinder_setting_result else_owed)
 {
     if (given->error != 0)
-        return (cinder_setting_result){given->error, list, given->offset, 0};
+        return (cinder_setting_result){given->error, list, given->offset, 0, given->depth};
     if (given->consumed < length)
-        return (cinder_setting_result){29, list, given->consumed, 0};
+        return (cinder_setting_result){29, list, given->consumed, 0, 0};
     return else_owed;
 }
 
@@ -180,17 +181,18 @@ static void check_table(void)
         uint8_t *whole = list_bytes(given, &length);
         struct bytes area = {whole, length};
         look_up(area, house, key,
-                owed_for(given, length, GUEST, (cinder_setting_result){0, HOUSE, 29, 3}),
+                owed_for(given, length, GUEST, (cinder_setting_result){0, HOUSE, 29, 3, 0}),
                 given->name);
         look_up(guest, area, key,
-                owed_for(given, length, HOUSE, (cinder_setting_result){0, GUEST, 29, 2}),
+                owed_for(given, length, HOUSE, (cinder_setting_result){0, GUEST, 29, 2, 0}),
                 given->name);
         look_up(area, area, key, owed_for(given, length, GUEST, in_neither), given->name);
         free(whole);
     }
 }
 
-/* One of the two lists cut at every byte ends inside an item. */
+/* One of the two lists cut at every byte ends inside an item, at the depth that is counted
+ * there. */
 static void check_cut(uint64_t list)
 {
     struct bytes guest = BYTES(guest_list), house = BYTES(house_list), key = BYTES("lamp");
@@ -203,6 +205,8 @@ static void check_cut(uint64_t list)
                                                           house.length, key.at, key.length);
         check(found.error == 21 && found.list == list && found.length == 0, "cut", "answer");
         check(found.offset <= cut->length, "cut", "offset");
+        check(found.offset <= cut->length && found.depth == lists_open(cut->at, found.offset),
+              "cut", "depth");
         free(house_area);
         free(guest_area);
     }
@@ -211,8 +215,8 @@ static void check_cut(uint64_t list)
 /* Bytes behind a list come last for it, and the guest's list comes before the house list. */
 static void check_bytes_left(void)
 {
-    static const cinder_setting_result of_guest = {29, GUEST, sizeof guest_list - 1, 0};
-    static const cinder_setting_result of_house = {29, HOUSE, sizeof house_list - 1, 0};
+    static const cinder_setting_result of_guest = {29, GUEST, sizeof guest_list - 1, 0, 0};
+    static const cinder_setting_result of_house = {29, HOUSE, sizeof house_list - 1, 0, 0};
     struct bytes guest = BYTES(guest_list), house = BYTES(house_list), key = BYTES("lamp");
     struct bytes guest_cut = {guest.at, guest.length - 1};
     struct bytes house_cut = {house.at, house.length - 1};
@@ -226,7 +230,7 @@ static void check_bytes_left(void)
         look_up(guest, house_more, key, of_house, "bytes behind the house list");
         look_up(guest_more, house_more, key, of_guest, "bytes behind both lists");
         look_up(guest_more, house_cut, key, of_guest, "bytes behind, and the house list cut");
-        look_up(guest_cut, house_more, key, (cinder_setting_result){21, GUEST, 53, 0},
+        look_up(guest_cut, house_more, key, (cinder_setting_result){21, GUEST, 53, 0, 2},
                 "the guest's list cut, and bytes behind the house list");
     }
 }
@@ -244,28 +248,31 @@ static struct bytes of_size(uint8_t *area, uint32_t size)
 
 static void check_limit(void)
 {
-    static const cinder_setting_result beyond = {28, GUEST, 26, 0};
+    static const cinder_setting_result beyond = {28, GUEST, 26, 0, 2};
     struct bytes guest = BYTES(guest_list), key = BYTES("k");
     uint8_t full_area[AREA_ROOM] = {0}, longer_area[AREA_ROOM];
     struct bytes full = of_size(full_area, LIST_LIMIT);
     struct bytes longer = of_size(longer_area, LIST_LIMIT + 1);
     struct bytes more = {full_area, LIST_LIMIT + 1};
     uint64_t length = LIST_LIMIT - 27;
-    look_up(full, guest, key, (cinder_setting_result){0, GUEST, 26, length}, "full guest's list");
-    look_up(guest, full, key, (cinder_setting_result){0, HOUSE, 26, length}, "full house list");
-    look_up(full, full, key, (cinder_setting_result){0, GUEST, 26, length}, "two full lists");
+    look_up(full, guest, key, (cinder_setting_result){0, GUEST, 26, length, 0},
+            "full guest's list");
+    look_up(guest, full, key, (cinder_setting_result){0, HOUSE, 26, length, 0}, "full house list");
+    look_up(full, full, key, (cinder_setting_result){0, GUEST, 26, length, 0}, "two full lists");
     look_up(full, full, AREA("l"), in_neither, "two full lists");
     look_up(longer, full, key, beyond, "guest's list too long");
     look_up(longer, longer, key, beyond, "both lists too long");
-    look_up(full, longer, key, (cinder_setting_result){28, HOUSE, 26, 0}, "house list too long");
-    look_up(more, full, key, (cinder_setting_result){29, GUEST, 4096, 0}, "one byte behind 4,096");
-    look_up(full, more, key, (cinder_setting_result){29, HOUSE, 4096, 0}, "one byte behind 4,096");
+    look_up(full, longer, key, (cinder_setting_result){28, HOUSE, 26, 0, 2}, "house list too long");
+    look_up(more, full, key, (cinder_setting_result){29, GUEST, 4096, 0, 0},
+            "one byte behind 4,096");
+    look_up(full, more, key, (cinder_setting_result){29, HOUSE, 4096, 0, 0},
+            "one byte behind 4,096");
     put_ints(longer_area, LIST_LIMIT, 1022);
     longer.length = LIST_LIMIT;
-    look_up(longer, full, key, (cinder_setting_result){0, HOUSE, 26, length}, "1,022 ints");
+    look_up(longer, full, key, (cinder_setting_result){0, HOUSE, 26, length, 0}, "1,022 ints");
     put_ints(longer_area, LIST_LIMIT + 4, 1023);
     longer.length = LIST_LIMIT + 4;
-    look_up(longer, full, key, (cinder_setting_result){28, GUEST, 4096, 0}, "1,023 ints");
+    look_up(longer, full, key, (cinder_setting_result){28, GUEST, 4096, 0, 1}, "1,023 ints");
 }
 
 /* Every byte as a key of its own, and one that differs from it in a bit. */
@@ -276,9 +283,9 @@ static void check_bytes(void)
     for (unsigned byte = 1; byte < 256; byte++) {
         uint8_t keys[2] = {(uint8_t)byte, (uint8_t)(byte ^ 1)};
         area[20] = keys[0];
-        look_up(list, empty, (struct bytes){keys, 1}, (cinder_setting_result){0, GUEST, 26, 1},
+        look_up(list, empty, (struct bytes){keys, 1}, (cinder_setting_result){0, GUEST, 26, 1, 0},
                 "a key of one byte");
-        look_up(empty, list, (struct bytes){keys, 1}, (cinder_setting_result){0, HOUSE, 26, 1},
+        look_up(empty, list, (struct bytes){keys, 1}, (cinder_setting_result){0, HOUSE, 26, 1, 0},
                 "a key of one byte");
         look_up(list, list, (struct bytes){keys + 1, 1}, in_neither, "another key of one byte");
         look_up(list, list, (struct bytes){keys, 2}, in_neither, "a key of two bytes");
@@ -290,16 +297,20 @@ static void check_null(void)
 {
     const struct bytes none = {NULL, 0}, guest = BYTES(guest_list), house = BYTES(house_list);
     cinder_setting_result found = cinder_setting_find(NULL, 0, NULL, 0, NULL, 0);
-    check(found.error == 21 && found.list == GUEST && found.offset == 0 && found.length == 0,
+    check(found.error == 21 && found.list == GUEST && found.offset == 0 && found.length == 0 &&
+              found.depth == 0,
           "null areas", "answer");
     found = cinder_setting_find(guest.at, guest.length, NULL, 0, NULL, 0);
-    check(found.error == 21 && found.list == HOUSE && found.offset == 0 && found.length == 0,
+    check(found.error == 21 && found.list == HOUSE && found.offset == 0 && found.length == 0 &&
+              found.depth == 0,
           "null house list", "answer");
     found = cinder_setting_find(guest.at, guest.length, house.at, house.length, NULL, 0);
-    check(found.error == 0 && found.list == HOUSE && found.offset == 72 && found.length == 8,
+    check(found.error == 0 && found.list == HOUSE && found.offset == 72 && found.length == 8 &&
+              found.depth == 0,
           "null key", "answer");
-    look_up(none, house, none, (cinder_setting_result){21, GUEST, 0, 0}, "no guest's list");
-    look_up(guest, none, AREA("lamp"), (cinder_setting_result){21, HOUSE, 0, 0}, "no house list");
+    look_up(none, house, none, (cinder_setting_result){21, GUEST, 0, 0, 0}, "no guest's list");
+    look_up(guest, none, AREA("lamp"), (cinder_setting_result){21, HOUSE, 0, 0, 0},
+            "no house list");
 }
 
 /* Areas that are only read may share bytes: one list for both, and a key that stands in it. */
@@ -310,7 +321,8 @@ static void check_shared(void)
     uint8_t *list = copy_of(house.at, house.length);
     cinder_setting_result found = cinder_setting_find(list, house.length, list, house.length,
                                                       list + KEY, KEY_LENGTH);
-    check(found.error == 0 && found.list == GUEST && found.offset == 29 && found.length == 3,
+    check(found.error == 0 && found.list == GUEST && found.offset == 29 && found.length == 3 &&
+              found.depth == 0,
           "shared areas", "answer");
     check(holds(list, house.length, house.at, house.length), "shared areas", "list");
     free(list);

@@ -29,6 +29,7 @@ static void check_step(const uint8_t *bytes, size_t length, uint64_t offset, siz
     check(found.rows == owed->answer.rows, owed->name, "rows");
     check(found.offset == owed->answer.offset, owed->name, "offset");
     check(found.stored == owed->store_length, owed->name, "stored");
+    check(found.depth == owed->answer.depth, owed->name, "depth");
     check(holds(rows, rows_room, owed->rows, ROW_BYTES * owed->answer.rows), owed->name,
           "rows buffer");
     check(holds(store, store_room, owed->store, owed->store_length), owed->name, "store buffer");
@@ -53,7 +54,7 @@ static void check_case_at(const uint8_t *bytes, size_t length, uint64_t front,
     uint64_t offset = given->error == 0 ? 0 : front + given->offset;
     struct step owed = {given->name,
                         {given->error, given->consumed, given->row_count, offset,
-                         given->store_length},
+                         given->store_length, given->depth},
                         rows,
                         (const uint8_t *)given->store,
                         given->store_length};
@@ -139,7 +140,7 @@ static void check_limit(void)
     uint8_t *bytes = new_buffer(length);
     uint8_t *rows = int_rows(1023);
     struct step beyond = {
-        "1,023 ints behind a list", {.error = 28, .offset = 8 + 4096}, NULL, NULL, 0};
+        "1,023 ints behind a list", {.error = 28, .offset = 8 + 4096, .depth = 1}, NULL, NULL, 0};
     struct step full = {
         "1,022 ints behind a list", {.consumed = 4096, .rows = 1023}, rows, NULL, 0};
     put_words(bytes, empty_list, 2);
@@ -158,7 +159,7 @@ static void check_null(void)
     check_step(NULL, 0, 0, ROWS_ROOM, STORE_ROOM, &at_end);
     cinder_list_result answer = cinder_stream_next(NULL, 0, 0, NULL, 0, NULL, 0);
     check(answer.error == 20 && answer.consumed == 0 && answer.rows == 0 && answer.offset == 0 &&
-              answer.stored == 0,
+              answer.stored == 0 && answer.depth == 0,
           "null buffers", "answer");
 }
 

@@ -185,7 +185,7 @@ static void check_read_back(const struct list_case *given)
     uint8_t *store = new_buffer(STORE_ROOM);
     cinder_list_result read =
         cinder_list_decode(bytes, length, rows, ROWS_ROOM, store, STORE_ROOM);
-    check(read.error == 0, given->name, "read");
+    check(read.error == 0 && read.depth == 0, given->name, "read");
     write_list(rows, ROW_BYTES * read.rows, store, read.stored, LIST_LIMIT, 0, bytes,
                read.consumed, given->name);
     free(store);

@@ -6,14 +6,15 @@
 #include <stddef.h>
 #include <stdint.h>
 
-enum { LIST_LIMIT = 4096, ROWS_ROOM = 12288, STORE_ROOM = 4096, ROW_BYTES = 12 };
+enum { LIST_LIMIT = 4096, DEPTH_LIMIT = 8, ROWS_ROOM = 12288, STORE_ROOM = 4096, ROW_BYTES = 12 };
 
 /* A list given as 32-bit numbers, then single bytes. On an error consumed and row_count
- * are 0 and nothing is written; otherwise offset is 0. */
+ * are 0 and nothing is written; otherwise offset and depth are 0. */
 struct list_case {
     const char *name;
     uint64_t error;
     uint64_t offset;
+    uint64_t depth;
     uint64_t consumed;
     size_t row_count;
     size_t word_count;
@@ -33,6 +34,10 @@ uint8_t *list_bytes(const struct list_case *given, size_t *length);
 
 /* The rows of a case, 12 bytes each, low byte first. Freed by the caller. */
 uint8_t *list_rows(const struct list_case *given);
+
+/* How many lists are open where these bytes end, which must be where an item of a list begins:
+ * counted by codes, counts and lengths alone. */
+uint64_t lists_open(const uint8_t *bytes, size_t length);
 
 /* Puts as much of a typed list of ints 0, 1, 2 .. with this count as `length` bytes hold. */
 void put_ints(uint8_t *bytes, size_t length, uint32_t count);

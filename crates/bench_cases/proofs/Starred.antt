@@ -17,7 +17,7 @@ use Rattle.list.specs.Limits.{listLimit}
 use Rattle.list.specs.Tree.{none}
 use Rattle.list.specs.Bytes.{number, listBytes}
 use Rattle.list.specs.Rows.{rowCount}
-use Rattle.list.specs.Refusal.{refusal}
+use Rattle.list.specs.Refusal.{refusal, refusalAt}
 use Rattle.list.specs.Parse.{good, bad, parse}
 use Rattle.list.proofs.Cases as lists
 use Rattle.list.proofs.Cases.{primes, primeBytes, twoLists, twoListBytes}
@@ -63,8 +63,8 @@ pub record Starred : Type 0 where
   pub two-lists-written : listBytes twoLists ≡ twoListBytes
   -- "Numbers 256, 0: the empty list. 257, 0: refused 24 at 0. 256, 1, 1, 5: 24 at 0. 512, 0: 22 at 0."
   pub empty-list : parse listLimit (number 256 ++ number 0) ≡ good none 8
-  pub typed-empty : parse listLimit (number 257 ++ number 0) ≡ bad (refusal 24 0)
-  pub untyped-int : parse listLimit (number 256 ++ number 1 ++ number 1 ++ number 5) ≡ bad (refusal 24 0)
+  pub typed-empty : parse listLimit (number 257 ++ number 0) ≡ bad (refusalAt 24 0 1)
+  pub untyped-int : parse listLimit (number 256 ++ number 1 ++ number 1 ++ number 5) ≡ bad (refusalAt 24 0 1)
   pub no-list : parse listLimit (number 512 ++ number 0) ≡ bad (refusal 22 0)
 
 -- row i of packet's table

@@ -73,6 +73,7 @@ pub fn case(name: &[u8], bytes: &[u8]) {
         Decoded::Refused(refusal) => {
             show::number(b": refused ", refusal.error as usize);
             show::number(b" at ", refusal.offset);
+            show::number(b" depth ", refusal.depth as usize);
         }
     }
     show::text(b"\n");

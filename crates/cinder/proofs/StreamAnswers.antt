@@ -1,27 +1,32 @@
--- What every series of stream calls over a run of lists answers; and that the end is told apart from every other answer.
+-- What every series of stream calls over a run of lists answers; that the end is told apart from every other answer; and the depth of a refusal.
 use Prim.Native.Nat.{ℕ, _+_, _<_}
 use mathlib.Core.Path.{_≡_, refl, ap, _∙_}
 use mathlib.Core.Bool.{Bool, true, false}
 use mathlib.Core.List.{List, [], _∷_, _++_, map}
 use native.Mathlib.Omega.{arith}
+use native.Mathlib.Nat.{add-zero}
 use lib.Dec.{eqb, ltb}
 use lib.ListN.{length, drop}
 use borrow.Author.Tests.{eqb-true, eqb-false, ltb-true, ltb-false}
 use Rattle.wire.specs.Number.{Bytes}
 use Rattle.list.specs.Limits.{listLimit}
 use Rattle.list.specs.Tree.{Elements}
+use Rattle.list.specs.Rows.{listStore, rowCount}
+use Rattle.list.specs.Refusal.{refusal}
 use Rattle.list.specs.Parse.{Parsed, good, bad, parse}
+use Rattle.list.specs.Open.{openAt}
 use Rattle.list.proofs.Items.{bytes-drop}
 use Rattle.list.proofs.Sound.{sound, within}
 use Rattle.list_decode.specs.Decode.{Outcome, outcome, roomy}
 use Rattle.stream.specs.Step.{Found, accepted, ended, refused, stepOf}
 use Rattle.stream.specs.Series.{Lending, consumedBy, series}
-use Rattle.stream.specs.Run.{LegalRun, runBytes, StartsNone, expected}
-use Rattle.stream.proofs.Steps.{step-short, step-past, step-end, step-found, step-fault}
+use Rattle.stream.specs.Run.{LegalRun, runBytes, StartsNone, behind, expected}
+use Rattle.stream.proofs.Steps.{step-end, step-cases}
 use Rattle.stream.proofs.Runs.{some-bytes}
 use Rattle.stream.proofs.Demand3.{demand-3}
 use Rattle.cinder.specs.declared.list_call.ListResult.{ListResult}
 use Rattle.cinder.specs.ListCall.{listRead}
+use Rattle.cinder.proofs.ListAnswers.{DepthTold, read-told, short-told, fault-told, parse-told}
 use Rattle.cinder.specs.StreamCall.{stepNumbers, stepOutcome, streamCall, streamCalls}
 
 -- the bytes consumed are the step's
@@ -53,41 +58,36 @@ call-end s rows store r = ap stepOutcome (step-end s (length s) rows store r ref
 abbrev Silent : Outcome Found → Type 0
 Silent o = (stepOutcome o .answer .error ≡ 0) × (stepOutcome o .answer .consumed ≡ 0)
 
-module _ (s : List ℕ) (offset : ℕ) (rows store : List ℕ) (bytes : Bytes s) (silent : Silent (stepOf s offset rows store)) where
-  told : (o : Outcome Found) → stepOf s offset rows store ≡ o → Silent o
-  told o is = rw is at silent
-
-  not-short : roomy rows store ≡ false → ⊥
-  not-short r = let w : _≡_ {A = ℕ} 20 0 = told _ (step-short s offset rows store r) .0 in omega (arith, w)
-
-  not-past : roomy rows store ≡ true → length s < offset → ⊥
-  not-past r h = let w : _≡_ {A = ℕ} 21 0 = told _ (step-past s offset rows store r h) .0 in omega (arith, w)
-
-  not-inside : roomy rows store ≡ true → offset < length s → (p : Parsed Elements) → parse listLimit (drop offset s) ≡ p → ⊥
-  not-inside r h (good es size) q =
-      let w : size ≡ 0 = told _ (step-found s offset rows store r h es size q) .1 in
-      omega (arith, w, sound listLimit (drop offset s) es size (bytes-drop offset s bytes) q .1, some-bytes es)
-  not-inside r h (bad f) q =
-      let w : f .number ≡ 0 = told _ (step-fault s offset rows store r h f q) .0 in
-      omega (arith, w, within listLimit (drop offset s) f q .low)
-
-  at-end : offset ≡ length s
-  at-end = room (roomy rows store) refl
-    where
-      same : roomy rows store ≡ true → ltb (length s) offset ≡ false → (b : Bool) → eqb offset (length s) ≡ b → offset ≡ length s
-      same r k true d = eqb-true _ _ d
-      same r k false d = absurd (not-inside r (omega (arith, ltb-false (length s) offset k, eqb-false offset (length s) d)) (parse listLimit (drop offset s)) refl)
-
-      order : roomy rows store ≡ true → (b : Bool) → ltb (length s) offset ≡ b → offset ≡ length s
-      order r true k = absurd (not-past r (ltb-true _ _ k))
-      order r false k = same r k (eqb offset (length s)) refl
-
-      room : (b : Bool) → roomy rows store ≡ b → offset ≡ length s
-      room true r = order r (ltb (length s) offset) refl
-      room false r = absurd (not-short r)
+at-end : (s : List ℕ) (offset : ℕ) (rows store : List ℕ) → Bytes s → Silent (stepOf s offset rows store) → offset ≡ length s
+at-end s offset rows store bytes =
+    step-cases (λ o. Silent o → offset ≡ length s) s offset rows store
+    (λ w. absurd (omega (arith, w .0)))
+    (λ h w. absurd (omega (arith, w .0)))
+    (λ e w. e)
+    (λ es n e w. absurd (omega (arith, w .1, sound listLimit (drop offset s) es n (bytes-drop offset s bytes) e .1, some-bytes es)))
+    (λ f e w. absurd (omega (arith, w .0, within listLimit (drop offset s) f e .low)))
 
 -- no error and no bytes consumed is answered at the end alone
 pub end-alone : (s : List ℕ) (offset : ℕ) (rows store : List ℕ) → Bytes s
     → streamCall s offset rows store .answer .error ≡ 0 → streamCall s offset rows store .answer .consumed ≡ 0 → offset ≡ length s
 unfolding streamCall
 end-alone s offset rows store bytes e n = at-end s offset rows store bytes (e, n)
+
+-- LAW: a call at any offset, so each of every series, tells the depth, by the bytes from there on; past the end there are none, and no list is open
+pub stream-depth : (s : List ℕ) (offset : ℕ) (rows store : List ℕ) → DepthTold (drop offset s) offset (streamCall s offset rows store .answer)
+unfolding streamCall openAt
+stream-depth s offset rows store =
+    let rest : List ℕ = drop offset s in
+    step-cases (λ o. DepthTold rest offset (stepOutcome o .answer)) s offset rows store
+    (short-told rest offset)
+    (λ h. rw add-zero at (fault-told rest offset (refusal 21 0) (omega arith) refl))
+    (λ e. read-told rest offset 0 0 0)
+    (λ es n e. read-told rest offset n (rowCount es) (length (listStore es)))
+    (λ f e. parse-told rest offset f e)
+
+-- LAW: behind a run of `size` bytes, bytes that start with no legal list are refused, and the refusal tells the depth
+pub behind-depth : (size b : ℕ) (rest : List ℕ) → Bytes (b ∷ rest) → StartsNone (b ∷ rest)
+    → (20 < stepNumbers (behind size (b ∷ rest)) .error) × DepthTold (b ∷ rest) size (stepNumbers (behind size (b ∷ rest)))
+behind-depth size b rest h n =
+    let f = demand-3 .fault b rest h n in
+    rw (f .behindRun size) (within listLimit (b ∷ rest) (f .refusal) (f .found) .low, parse-told (b ∷ rest) size (f .refusal) (f .found))

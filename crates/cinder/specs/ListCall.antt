@@ -8,11 +8,12 @@ use Rattle.cinder.specs.declared.list_call.ListResult.{ListResult}
 
 -- "answers bytes taken and rows filled", and the store bytes in use: no error
 abbrev pub listRead : ℕ → ℕ → ℕ → ListResult
-listRead consumed rows stored = record { error = 0; consumed = consumed; rows = rows; offset = 0; stored = stored }
+listRead consumed rows stored = record { error = 0; consumed = consumed; rows = rows; offset = 0; stored = stored; depth = 0 }
 
--- "Each refusal returns its number; the list reader and the run add the place of the item at fault": nothing is taken or filled
+-- "Each refusal returns its number; the list reader and the run add the place of the item at fault"; "the C calls pass it on": the depth.
+-- Nothing is taken or filled
 abbrev pub listRefused : Refusal → ListResult
-listRefused r = record { error = r .number; consumed = 0; rows = 0; offset = r .offset; stored = 0 }
+listRefused r = record { error = r .number; consumed = 0; rows = 0; offset = r .offset; stored = 0; depth = r .depth }
 
 -- list reading's answer in numbers
 abbrev pub listNumbers : Reading → ListResult

@@ -7,7 +7,7 @@ use Rattle.cinder.specs.declared.setting_call.SettingResult.{SettingResu
 
 -- the numbers of an answer
 abbrev pub settingResult : Located → SettingResult
-settingResult l = record { error = l .error; list = l .list; offset = l .offset; length = l .length }
+settingResult l = record { error = l .error; list = l .list; offset = l .offset; length = l .length; depth = l .depth }
 
 -- no area is written
 unfoldable pub settingCall : List ℕ → List ℕ → List ℕ → SettingResult

@@ -6,7 +6,8 @@ ghost use Rattle.list.specs.Refusal.{refusalOf};
 ghost use Rattle.list_decode.specs.Decode.{outcome};
 ghost use Rattle.cinder.specs.ListCall.{listRead, listRefused, listCall};
 
-// The number of the error, 0 for none, and its offset; the bytes consumed, the rows filled and the store bytes in use, 0 on an error.
+// The number of the error, 0 for none, its offset and how many lists are open at the fault; the bytes consumed, the rows filled and the
+// store bytes in use, 0 on an error.
 #[repr(C)]
 pub struct ListResult {
     pub error: u64,
@@ -14,6 +15,7 @@ pub struct ListResult {
     pub rows: u64,
     pub offset: u64,
     pub stored: u64,
+    pub depth: u64,
 }
 
 // A list that was read.
@@ -26,6 +28,7 @@ pub fn read(consumed: usize, rows: u32, stored: usize) -> ListResult
         rows: rows as u64,
         offset: 0,
         stored: stored as u64,
+        depth: 0,
     }
 }
 
@@ -39,6 +42,7 @@ pub fn refused(refusal: Refusal) -> ListResult
         rows: 0,
         offset: refusal.offset as u64,
         stored: 0,
+        depth: refusal.depth as u64,
     }
 }
 

@@ -19,7 +19,7 @@ use Rattle.list.specs.Bytes.{number, stringBytes, blobBytes, valueBytes,
 use Rattle.list.specs.Legal.{NoZero, LegalValue, LegalElements, Legal}
 use Rattle.list.specs.Refusal.{refusal}
 use Rattle.list.specs.Strings.{terminator, stringLength, stringSize, closed}
-use Rattle.list.specs.Parse.{Parsed, good, bad, isListCode, itemFault, stringAt, blobAt, valueAt, typedAt, codedAt, mixedAt, elementsAt, listAt, parse}
+use Rattle.list.specs.Parse.{Parsed, good, bad, inList, isListCode, itemFault, stringAt, blobAt, valueAt, typedAt, codedAt, mixedAt, elementsAt, bodyAt, listAt, parse}
 use Rattle.list.proofs.Codes.{kind-of-code, kind-of-typed, kind-of-list, kind-no-list, typed-no-list, code-low, code-is, code-good, AllKind, CodeIs, mixed, typed}
 use Rattle.list.proofs.RowBound.{value-size}
 use Rattle.list.proofs.Items.{Stands, stands-front, stands-length, stands-behind, stands-take, word-of, fault-none}
@@ -152,8 +152,8 @@ module _ (limit : ℕ) (small : limit < 2 ^ 31) (s : List ℕ) where
       → Stands s at (number code ++ (number (count es) ++ (elementBytes code es ++ rest))) → at + (8 + length (elementBytes code es)) ≤ limit
       → (Stands s (at + 8) (elementBytes code es ++ rest)
       → elementsAt (listAt d limit s) limit s (kindOf (code - listCode)) (count es) (at + 8) ≡ good es (at + 8 + length (elementBytes code es)))
-      → listAt (suc d) limit s at code ≡ cond (eqb code (listCodeOf es)) (good es (at + 8 + length (elementBytes code es))) (bad (refusal 24 at))
-  unfolding listAt
+      → listAt (suc d) limit s at code ≡ inList (cond (eqb code (listCodeOf es)) (good es (at + 8 + length (elementBytes code es))) (bad (refusal 24 at)))
+  unfolding listAt bodyAt
   body-ok d code es at rest h f go =
       let x : List ℕ = elementBytes code es ++ rest in
       let h₄ : Stands s (at + 4) (number (count es) ++ x) = stands-behind s at (number code) (number (count es) ++ x) h in

@@ -17,8 +17,8 @@ use Rattle.list.specs.Limits.{depthLimit}
 use Rattle.list.specs.Kind.{kindOf, listCode}
 use Rattle.list.specs.Tree.{Elements, value}
 use Rattle.list.specs.Strings.{stringSize, negative, badLength}
-use Rattle.list.specs.Parse.{Parsed, good, bad, andThen, afterItem, word, itemFault}
-use Rattle.list.specs.Parse.{stringAt, blobAt, valueAt, typedAt, codedValue, codedAt, mixedAt, elementsAt, listAt, parse}
+use Rattle.list.specs.Parse.{Parsed, good, bad, andThen, inList, afterItem, word, itemFault}
+use Rattle.list.specs.Parse.{stringAt, blobAt, valueAt, typedAt, codedValue, codedAt, mixedAt, elementsAt, bodyAt, listAt, parse}
 use Rattle.list.proofs.Items.{fault-fits}
 
 -- the bytes of a part that ends within what is left
@@ -69,7 +69,7 @@ module _ (limit : ℕ) (s : List ℕ) where
       by zero e = go (fault-fits limit s at n e .0)
       by (suc fault) e = refl
 
-  word-cut : (at : ℕ) → at + 4 ≤ limit → word t at ≡ word s at
+  pub word-cut : (at : ℕ) → at + 4 ≤ limit → word t at ≡ word s at
   word-cut at h = ap leValue (part-cut 4 limit s at h)
 
   string-cut : (at : ℕ) → stringAt limit t at ≡ stringAt limit s at
@@ -119,12 +119,15 @@ module _ (limit : ℕ) (s : List ℕ) where
     elements-cut (Is k) n at = typed-cut k n at
     elements-cut Unknown n at = mixed-cut n at
 
+    body-cut : (at code : ℕ) → bodyAt inner limit t at code ≡ bodyAt inner′ limit s at code
+    unfolding bodyAt
+    body-cut at code =
+        after-cut (at + 4) 4 _ _ (λ f. rw (word-cut (at + 4) f, elements-cut (kindOf (code - listCode)) (word s (at + 4)) (at + 8)))
+
   list-cut : (d at code : ℕ) → listAt d limit t at code ≡ listAt d limit s at code
   unfolding listAt
   list-cut zero at code = refl
-  list-cut (suc d) at code =
-      after-cut (at + 4) 4 _ _ (λ f.
-      rw (word-cut (at + 4) f, elements-cut (listAt d limit t) (listAt d limit s) (list-cut d) (kindOf (code - listCode)) (word s (at + 4)) (at + 8)))
+  list-cut (suc d) at code = ap inList (body-cut (listAt d limit t) (listAt d limit s) (list-cut d) at code)
 
 -- what is read of bytes cut at the limit is what is read of them
 pub cut : (limit : ℕ) (s : List ℕ) → parse limit (take limit s) ≡ parse limit s

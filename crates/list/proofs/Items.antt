@@ -1,6 +1,6 @@
 -- Laws of items at an offset: what stands there, and when an item has no fault.
 use Prim.Native.Nat.{ℕ, zero, suc, _+_, _^_, _≤_, _<_}
-use mathlib.Core.Path.{_≡_, refl, sym, ap, _∙_}
+use mathlib.Core.Path.{_≡_, refl, sym, ap, subst, _∙_}
 use mathlib.Core.Bool.{Bool, true, false, cond}
 use mathlib.Core.List.{List, [], _∷_, _++_}
 use native.Mathlib.Omega.{arith}
@@ -63,3 +63,18 @@ fault-fits limit s at n = go (ltb limit (at + n)) refl (ltb (length s) (at + n))
     go true e b f h = absurd (omega arith)
     go false e true f h = absurd (omega arith)
     go false e false f h = (ltb-false _ _ e, ltb-false _ _ f)
+
+-- an item's fault is 28 or 21: what holds of both numbers holds of it
+pub fault-is : (P : ℕ → Type 0) (limit : ℕ) (s : List ℕ) (at n fault : ℕ) → P 28 → P 21 → itemFault limit s at n ≡ suc fault → P (suc fault)
+unfolding itemFault
+fault-is P limit s at n fault long short = go (ltb limit (at + n)) (ltb (length s) (at + n))
+  where
+    go : (a b : Bool) → cond {A = ℕ} a 28 (cond b 21 0) ≡ suc fault → P (suc fault)
+    go true b h = subst P h long
+    go false true h = subst P h short
+    go false false h = absurd (omega arith)
+
+-- nothing is missing of no bytes
+pub fault-some : (limit : ℕ) (s : List ℕ) (at n fault : ℕ) → at ≤ limit → at ≤ length s → itemFault limit s at n ≡ suc fault → 0 < n
+fault-some limit s at zero fault f i e = absurd (omega (arith, fault-none limit s at 0 (omega arith) (omega arith)))
+fault-some limit s at (suc n) fault f i e = omega arith

@@ -4,6 +4,9 @@ pub mod RowBound
 pub mod Complete
 pub mod Says
 pub mod Sound
+pub mod Shallow
+pub mod Depth
+pub mod Before
 pub mod Same
 pub mod OneImage
 pub mod TypedRun

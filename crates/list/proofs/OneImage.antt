@@ -13,7 +13,7 @@ use Rattle.list.specs.Kind.{listCode, typedCode}
 use Rattle.list.specs.Tree.{Value, Elements, none, value, count}
 use Rattle.list.specs.Bytes.{number, elementBytes, listCodeOf, listBytes}
 use Rattle.list.specs.Legal.{LegalElements, Legal}
-use Rattle.list.specs.Refusal.{refusal}
+use Rattle.list.specs.Refusal.{refusalAt}
 use Rattle.list.specs.Parse.{good, bad, typedAt, parse}
 use Rattle.list.proofs.Codes.{kind-of-typed, kind-of-list, code-low, code-all, code-none, typed-is-code, mixed-is-code, AllKind}
 use Rattle.list.proofs.Items.{stands-front}
@@ -35,7 +35,7 @@ no-list-opens limit es fs x small l m h = same-front limit es fs x [] small l m 
 -- "Taking 256 with equal kinds as legal: two images for one list"
 pub one-kind-refused : (limit : ℕ) (k : Kind) (v : Value) (es : Elements) (rest : List ℕ) → limit < 2 ^ 31
     → AllKind k (value v es) → LegalElements (depthLimit - 1) (value v es) → 8 + length (elementBytes listCode (value v es)) ≤ limit
-    → parse limit (number listCode ++ (number (count (value v es)) ++ (elementBytes listCode (value v es) ++ rest))) ≡ bad (refusal 24 0)
+    → parse limit (number listCode ++ (number (count (value v es)) ++ (elementBytes listCode (value v es) ++ rest))) ≡ bad (refusalAt 24 0 1)
 one-kind-refused limit k v es rest small a l f =
     let t : Elements = value v es in
     let x : List ℕ = number (count t) ++ (elementBytes listCode t ++ rest) in
@@ -47,7 +47,7 @@ one-kind-refused limit k v es rest small a l f =
     ∙ rw n
 
 -- "typed list of 0 elements"
-pub empty-typed-refused : (limit : ℕ) (k : Kind) (rest : List ℕ) → limit < 2 ^ 31 → 8 ≤ limit → parse limit (number (typedCode k) ++ (number 0 ++ rest)) ≡ bad (refusal 24 0)
+pub empty-typed-refused : (limit : ℕ) (k : Kind) (rest : List ℕ) → limit < 2 ^ 31 → 8 ≤ limit → parse limit (number (typedCode k) ++ (number 0 ++ rest)) ≡ bad (refusalAt 24 0 1)
 unfolding typedAt
 empty-typed-refused limit k rest small f =
     let c : ℕ = typedCode k in

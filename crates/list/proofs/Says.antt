@@ -4,8 +4,8 @@ use mathlib.Core.Path.{_≡_, refl}
 use mathlib.Core.Bool.{Bool, true, false, cond}
 use mathlib.Core.List.{List}
 use lib.ListN.{length}
-use Rattle.list.specs.Refusal.{Refusal, refusal}
-use Rattle.list.specs.Parse.{Parsed, good, bad, andThen, afterItem, itemFault}
+use Rattle.list.specs.Refusal.{Refusal, refusal, enclosed}
+use Rattle.list.specs.Parse.{Parsed, good, bad, andThen, inList, afterItem, itemFault}
 use Rattle.list.proofs.Items.{fault-fits}
 
 -- G of what was read and of the offset behind it, B of a refusal
@@ -32,6 +32,14 @@ after-item {A} limit s G B at n p fails go = by (itemFault limit s at n) refl
     by zero e = let f = fault-fits limit s at n e in go (f .0) (f .1)
     by (suc fault) e = fails fault e
 
+pub in-list : {A : Type 0} (G : A → ℕ → Type 0) (B C : Refusal → Type 0) (p : Parsed A) → Says G B p → ((r : Refusal) → B r → C (enclosed r)) → Says G C (inList p)
+in-list G B C (good a next) h f = h
+in-list G B C (bad r) h f = f r h
+
 pub weaken : {A : Type 0} (G H : A → ℕ → Type 0) (B : Refusal → Type 0) (p : Parsed A) → Says G B p → ((a : A) (next : ℕ) → G a next → H a next) → Says H B p
 weaken G H B (good a next) h f = f a next h
 weaken G H B (bad r) h f = h
+
+pub weaken-bad : {A : Type 0} (G : A → ℕ → Type 0) (B C : Refusal → Type 0) (p : Parsed A) → Says G B p → ((r : Refusal) → B r → C r) → Says G C p
+weaken-bad G B C (good a next) h f = h
+weaken-bad G B C (bad r) h f = f r h

@@ -2,7 +2,7 @@
 -- Both are shown at once, through each step of reading: `Judged` says what holds of an answer, good or bad.
 use Prim.Native.Nat.{ℕ, zero, suc, _+_, _-_, _^_, _≤_, _<_}
 use mathlib.Core.Path.{_≡_, refl, sym, ap, _∙_}
-use mathlib.Core.Bool.{Bool, true, false, not, cond, _&&_, _||_}
+use mathlib.Core.Bool.{Bool, true, false, not, _&&_, _||_}
 use mathlib.Core.List.{List, [], _∷_, _++_, append-assoc}
 use native.Mathlib.Omega.{arith}
 use lib.Dec.{eqb, ltb, leb}
@@ -24,13 +24,13 @@ use Rattle.list.specs.Kind.{codeOf, kindOf, listCode}
 use Rattle.list.specs.Tree.{Value, Elements, str, none, value, list, kind, count}
 use Rattle.list.specs.Bytes.{number, stringBytes, valueBytes, elementCode, elementBytes, listCodeOf, listBytes}
 use Rattle.list.specs.Legal.{NoZero, LegalValue, LegalElements, Legal}
-use Rattle.list.specs.Refusal.{Refusal, refusal}
+use Rattle.list.specs.Refusal.{Refusal, refusal, enclosed}
 use Rattle.list.specs.Strings.{terminator, stringLength, stringSize, negative, badLength, closed}
-use Rattle.list.specs.Parse.{Parsed, good, bad, andThen, afterItem, word, itemFault}
-use Rattle.list.specs.Parse.{stringAt, blobAt, valueAt, typedAt, isListCode, codedValue, codedAt, mixedAt, elementsAt, listAt, parse}
+use Rattle.list.specs.Parse.{Parsed, good, bad, afterItem, word, itemFault}
+use Rattle.list.specs.Parse.{stringAt, blobAt, valueAt, typedAt, isListCode, codedValue, codedAt, mixedAt, elementsAt, bodyAt, listAt, parse}
 use Rattle.list.proofs.Codes.{code-of-kind}
-use Rattle.list.proofs.Items.{bytes-take, bytes-drop}
-use Rattle.list.proofs.Says.{Says, test, next-step, after-item, weaken}
+use Rattle.list.proofs.Items.{bytes-take, bytes-drop, fault-is}
+use Rattle.list.proofs.Says.{Says, test, next-step, after-item, in-list, weaken}
 
 -- a closed run is a string's bytes
 pub zero-none : (bs : List ℕ) → hasZero bs ≡ false → NoZero bs
@@ -49,6 +49,10 @@ closed-is m run e h =
 or-left : (a b : Bool) → (a || b) ≡ false → a ≡ false
 or-left true b h = h
 or-left false b h = refl
+
+-- a string's run has room for what stands behind the bytes
+pub string-room : (n : ℕ) → badLength n ≡ false → length terminator ≤ n
+string-room n fine = ltb-false n (length terminator) (or-left (ltb n (length terminator)) (negative n) fine)
 
 -- a list that stands in d lists, itself included
 abbrev Deep : ℕ → Elements → Type 0
@@ -79,17 +83,14 @@ pub record SaneRefusal (s : List ℕ) (r : Refusal) : Type 0 where
   pub inside : r .offset ≤ length s
 
 fault-number : (limit : ℕ) (s : List ℕ) (at n fault : ℕ) → itemFault limit s at n ≡ suc fault → (20 < suc fault) × (suc fault < 32)
-unfolding itemFault
-fault-number limit s at n fault = go (ltb limit (at + n)) (ltb (length s) (at + n))
-  where
-    go : (a b : Bool) → cond {A = ℕ} a 28 (cond b 21 0) ≡ suc fault → (20 < suc fault) × (suc fault < 32)
-    go true b h = (omega arith, omega arith)
-    go false true h = (omega arith, omega arith)
-    go false false h = absurd (omega arith)
+fault-number limit s at n fault = fault-is (λ (number : ℕ). (20 < number) × (number < 32)) limit s at n fault (omega arith) (omega arith)
 
 module _ (limit : ℕ) (s : List ℕ) where
   sane : (n at : ℕ) → at ≤ length s → (20 < n) × (n < 32) → SaneRefusal s (refusal n at)
   sane n at h b = record { low = b .0; high = b .1; inside = h }
+
+  sane-list : (r : Refusal) → SaneRefusal s r → SaneRefusal s (enclosed r)
+  sane-list r h = record { low = h .low; high = h .high; inside = h .inside }
 
   -- from `at` to `next`, within the limit and the bytes, stands xs
   record Span (at : ℕ) (xs : List ℕ) (next : ℕ) : Type 0 where
@@ -151,7 +152,7 @@ module _ (limit : ℕ) (s : List ℕ) where
       let m : ℕ = stringSize n in
       let all-bytes : List ℕ = drop (at + 4) s in
       let bs : List ℕ = take m all-bytes in
-      let some : length terminator ≤ n = ltb-false n (length terminator) (or-left (ltb n (length terminator)) (negative n) fine) in
+      let some : length terminator ≤ n = string-room n fine in
       let len : length (take n all-bytes) ≡ n = run-length (at + 4) n i in
       let r = closed-is m (take n all-bytes) (ap stringSize len) c in
       let t : take m (take n all-bytes) ≡ bs = take-take m n all-bytes (omega arith) in
@@ -292,23 +293,33 @@ module _ (limit : ℕ) (s : List ℕ) where
   elements-read d inner reads code c (Is k) e n at f i = typed-read d code k (code-typed code k e) n at f i
   elements-read d inner reads code c Unknown e n at f i = rw (code-mixed code c e) (mixed-read d inner reads n at f i)
 
+  is-list : (d at code : ℕ) (es : Elements) (next : ℕ) → Span (at + 4) (number (word s (at + 4))) (at + 8) → AreElements d code (at + 8) (word s (at + 4)) es next
+      → code ≡ listCodeOf es → IsList (suc d) at code es next
+  is-list d at code es next a r e = record {
+    legal = r .legal;
+    code-is = e;
+    span = spells-as (at + 4) next _ _ (ap (λ (m : ℕ). number m ++ elementBytes code es) (sym (r .many)))
+        (join (at + 4) (at + 8) next (number (word s (at + 4))) (elementBytes code es) a (r .span));
+  }
+
+  body-read : (d : ℕ) (inner : ℕ → ℕ → Parsed Elements) → ReadsLists d inner → (at code : ℕ) → isListCode code ≡ true → at + 4 ≤ length s
+      → Judged (IsList (suc d) at code) (bodyAt inner limit s at code)
+  unfolding bodyAt
+  body-read d inner reads at code c i =
+      let e₈ : at + 4 + 4 ≡ at + 8 = omega arith in
+      item-read _ (at + 4) 4 _ i (λ f₄ i₄.
+      test _ _ (negative (word s (at + 4))) _ _ (λ e. sane 23 (at + 4) i (omega arith)) (λ e.
+      next-step _ _ _ (elementsAt inner limit s (kindOf (code - listCode)) (word s (at + 4)) (at + 8)) _
+      (elements-read d inner reads code c (kindOf (code - listCode)) refl (word s (at + 4)) (at + 8) (omega arith) (omega arith))
+      (λ es next _ r. test _ _ (eqb code (listCodeOf es)) _ _
+      (λ q. is-list d at code es next (rw e₈ at (a-number (at + 4) f₄ i₄)) r (eqb-true _ _ q))
+      (λ q. sane 24 at (omega arith) (omega arith)))))
+
   list-read : (d : ℕ) → ReadsLists d (listAt d limit s)
   unfolding listAt
   list-read zero at code c f i = sane 27 at (omega arith) (omega arith)
   list-read (suc d) at code c f i =
-      let e₈ : at + 4 + 4 ≡ at + 8 = omega arith in
-      item-read _ (at + 4) 4 _ i (λ f₄ i₄.
-      test _ _ (negative (word s (at + 4))) _ _ (λ e. sane 23 (at + 4) i (omega arith)) (λ e.
-      next-step _ _ _ (elementsAt (listAt d limit s) limit s (kindOf (code - listCode)) (word s (at + 4)) (at + 8)) _
-      (elements-read d (listAt d limit s) (list-read d) code c (kindOf (code - listCode)) refl (word s (at + 4)) (at + 8) (omega arith) (omega arith))
-      (λ es next _ r. test _ _ (eqb code (listCodeOf es)) _ _
-      (λ q. record {
-        legal = r .legal;
-        code-is = eqb-true _ _ q;
-        span = spells-as (at + 4) next _ _ (ap (λ (m : ℕ). number m ++ elementBytes code es) (sym (r .many)))
-            (join (at + 4) (at + 8) next (number (word s (at + 4))) (elementBytes code es) (rw e₈ at (a-number (at + 4) f₄ i₄)) (r .span));
-      })
-      (λ q. sane 24 at (omega arith) (omega arith)))))
+      in-list _ (SaneRefusal s) _ (bodyAt (listAt d limit s) limit s at code) (body-read d (listAt d limit s) (list-read d) at code c i) (λ r. sane-list r)
 
   -- the whole list at the front
   record IsWhole (es : Elements) (next : ℕ) : Type 0 where

@@ -8,3 +8,4 @@ pub mod RowBytes
 pub mod Legal
 pub mod Refusal
 pub mod Parse
+pub mod Open

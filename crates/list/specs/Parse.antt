@@ -1,4 +1,4 @@
--- Reading a list: the tree at the front of any bytes, or the first fault from the front with its offset.
+-- Reading a list: the tree at the front of any bytes, or the first fault from the front with its offset and its depth.
 -- "Items are codes, counts, fixed elements, a length, a run of string or blob bytes."
 use Prim.Native.Nat.{ℕ, zero, suc, _+_, _-_}
 use mathlib.Core.Bool.{Bool, true, false, cond, _&&_, _||_}
@@ -11,7 +11,7 @@ use Rattle.list.specs.declared.Kind.the-variants.{Int, Float, Str, Blob,
 use Rattle.list.specs.declared.KindFound.{KindFound}
 use Rattle.list.specs.declared.KindFound.the-variants.{Is, Unknown}
 use Rattle.list.specs.Limits.{depthLimit}
-use Rattle.list.specs.Refusal.{Refusal, refusal}
+use Rattle.list.specs.Refusal.{Refusal, refusal, enclosed}
 use Rattle.list.specs.Strings.{stringSize, negative, badLength, closed}
 use Rattle.list.specs.Kind.{kindOf, sizeOf, listCode}
 use Rattle.list.specs.Tree.{Value, Elements, int, vocab, float, str, blob, none, value, list}
@@ -26,6 +26,11 @@ pub data Parsed (A : Type 0) : Type 0 where
 abbrev pub andThen : {A B : Type 0} → Parsed A → (A → ℕ → Parsed B) → Parsed B
 andThen (good a next) go = go a next
 andThen (bad r) go = bad r
+
+-- "the number of lists open at the fault": what is read inside a list has this list open as well
+abbrev pub inList : {A : Type 0} → Parsed A → Parsed A
+inList (good a next) = good a next
+inList (bad r) = bad (enclosed r)
 
 -- "For each, 28 comes before 21": an item of n bytes at `at`; 0 where all of it is there
 unfoldable pub itemFault : ℕ → List ℕ → ℕ → ℕ → ℕ
@@ -108,13 +113,18 @@ elementsAt inner limit s Unknown n at = mixedAt inner limit s n at
 abbrev pub finished : ℕ → ℕ → Parsed Elements → Parsed Elements
 finished code at p = andThen p (λ es end. cond (eqb code (listCodeOf es)) (good es end) (bad (refusal 24 at)))
 
--- a list whose code stands at `at`, where `depth` lists may stand in one another, this one included: "27 is given at a nested list's code"
-unfoldable pub listAt : ℕ → ℕ → List ℕ → ℕ → ℕ → Parsed Elements
-listAt zero limit s at code = bad (refusal 27 at)
-listAt (suc depth) limit s at code =
+-- what stands behind a list's code, which is at `at`: its count, then its elements
+unfoldable pub bodyAt : (ℕ → ℕ → Parsed Elements) → ℕ → List ℕ → ℕ → ℕ → Parsed Elements
+bodyAt inner limit s at code =
     afterItem (itemFault limit s (at + 4) 4) (at + 4)
     (cond (negative (word s (at + 4))) (bad (refusal 23 (at + 4)))
-    (finished code at (elementsAt (listAt depth limit s) limit s (kindOf (code - listCode)) (word s (at + 4)) (at + 8))))
+    (finished code at (elementsAt inner limit s (kindOf (code - listCode)) (word s (at + 4)) (at + 8))))
+
+-- a list whose code stands at `at`, where `depth` lists may stand in one another, this one included: "27 is given at a nested list's code",
+-- where it is not open yet; "1 at the outermost count, and for 24 the depth of the list at fault"
+unfoldable pub listAt : ℕ → ℕ → List ℕ → ℕ → ℕ → Parsed Elements
+listAt zero limit s at code = bad (refusal 27 at)
+listAt (suc depth) limit s at code = inList (bodyAt (listAt depth limit s) limit s at code)
 
 -- "The reader judges the list at the front": its elements and its size, or the fault
 unfoldable pub parse : ℕ → List ℕ → Parsed Elements

@@ -38,10 +38,11 @@ pub const DEPTH_LIMIT: usize = 8;
 // The code of a list whose elements carry their codes; a typed list has this and its kind's code.
 pub const LIST_CODE: u32 = 256;
 
-// Why list reading refuses: 01's number, and the offset of the item at fault.
+// Why list reading refuses: 01's number, the offset of the item at fault, and how many lists are open at the fault.
 pub struct Refusal {
     pub error: u8,
     pub offset: usize,
+    pub depth: u8,
 }
 
 // One row of a list: a code and two numbers.

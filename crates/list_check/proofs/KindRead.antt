@@ -8,7 +8,6 @@ use Rattle.list.specs.declared.Kind.the-variants.{Int, Float, Str, Blob, Vocab}
 use Rattle.list.specs.Tree.{Value, Elements, kind, count}
 use Rattle.list.specs.Strings.{negative, badLength, closed}
 use Rattle.list.specs.Parse.{Parsed, good, afterItem, itemFault, word, stringAt, blobAt, valueAt, typedAt}
-use Rattle.list.specs.Refusal.{Refusal}
 use Rattle.list.proofs.Codes.{AllKind}
 use Rattle.list.proofs.Says.{Says, test, next-step, after-item}
 

@@ -12,23 +12,24 @@ use Rattle.list.specs.declared.Kind.{Kind}
 use Rattle.list.specs.declared.KindFound.the-variants.{Is, Unknown}
 use Rattle.list.specs.Limits.{listLimit}
 use Rattle.list.specs.Kind.{codeOf, kindOf, sizeOf, listCode, typedCode}
-use Rattle.list.specs.Refusal.{Refusal, refusal}
+use Rattle.list.specs.Refusal.{Refusal, refusal, refusalAt, enclosed}
 use Rattle.list.specs.Strings.{negative}
 use Rattle.list.specs.Tree.{Value, Elements, value, list}
 use Rattle.list.specs.Bytes.{common, commonOf, listCodeOf}
-use Rattle.list.specs.Parse.{Parsed, good, bad, andThen, word, valueAt, typedAt, isListCode, codedValue, codedAt, mixedAt, elementsAt, finished, listAt}
+use Rattle.list.specs.Parse.{Parsed, good, bad, andThen, inList, word, valueAt, typedAt, isListCode, codedValue, codedAt, mixedAt, elementsAt, finished, bodyAt, listAt}
 use Rattle.list.proofs.Codes.{kind-of-code, kind-of-list, kind-of-typed, kind-no-list, kind-not-list}
 use Rattle.list.proofs.TypedRun.{Fixed}
+use Rattle.list.proofs.Shallow.{coded-shallow, list-shallow}
 use Rattle.list_check.specs.Check.{Verdict, accepted, refused, judged}
-use Rattle.list_check.specs.Steps.{toldBy, missingAt, closeOf, Refuses}
-use Rattle.list_check.proofs.Told.{told-end, thenGo, stopped, went-on, item-missing, there}
+use Rattle.list_check.specs.Steps.{toldBy, depthOf, enclosing, missingAt, closeOf, Refuses}
+use Rattle.list_check.proofs.Told.{told-end, thenGo, stopped, went-on, told-depth, refuses-depth, item-missing, there}
 use Rattle.list_check.proofs.KindRead.{value-kind}
 use Rattle.list_check.proofs.Typed.{value-missing, fixed-there}
 
 -- THE REST of a list whose elements so far have the code `seen` in common
 abbrev pub closing : ℕ → ℕ → Parsed Elements → Verdict
 closing at seen (good es end) = closeOf at (commonOf seen es) end
-closing at seen (bad r) = refused r
+closing at seen (bad r) = refused (enclosed r)
 
 module _ (inner : ℕ → ℕ → Parsed Elements) (s : List ℕ) (at : ℕ) where
   -- the answer from here on
@@ -69,15 +70,16 @@ module _ (inner : ℕ → ℕ → Parsed Elements) (s : List ℕ) (at : ℕ) whe
       go (bad r) = refl
 
   -- an element that is refused
-  pub turn-fault : (L : Verdict) (left seen pos bits : ℕ) → L ≡ rest left seen pos → 0 < left → Refuses bits (codedAt inner listLimit s pos) → toldBy bits ≡ L
+  pub turn-fault : (L : Verdict) (left seen pos bits bits′ : ℕ) → L ≡ rest left seen pos → 0 < left → Refuses bits (codedAt inner listLimit s pos)
+      → toldBy bits′ ≡ enclosing (toldBy bits) → toldBy bits′ ≡ L
   unfolding mixedAt
-  turn-fault L zero seen pos bits inv h q = absurd (omega arith)
-  turn-fault L (suc left) seen pos bits inv h q = go (codedAt inner listLimit s pos) q ∙ sym inv
+  turn-fault L zero seen pos bits bits′ inv h q c = absurd (omega arith)
+  turn-fault L (suc left) seen pos bits bits′ inv h q c = c ∙ go (codedAt inner listLimit s pos) q ∙ sym inv
     where
       go : (p : Parsed (Elements → Elements)) → Refuses bits p
-          → toldBy bits ≡ closing at seen (andThen p (λ f next. andThen (mixedAt inner listLimit s left next) (λ es end. good (f es) end)))
+          → enclosing (toldBy bits) ≡ closing at seen (andThen p (λ f next. andThen (mixedAt inner listLimit s left next) (λ es end. good (f es) end)))
       go (good f next) q = absurd q
-      go (bad r) q = q
+      go (bad r) q = ap enclosing q
 
   pub mixed-done : (left seen pos : ℕ) → left ≤ 0 → rest left seen pos ≡ closeOf at seen pos
   unfolding mixedAt
@@ -97,9 +99,10 @@ module _ (inner : ℕ → ℕ → Parsed Elements) (s : List ℕ) (at : ℕ) whe
         let l : pos + 4 + sizeOf k ≤ listLimit = omega arith in
         turn-value k (pos + 4 + sizeOf k) w (told-end _ l ∙ sym (fixed-there s k (pos + 4) x cut h)) (le-ltb _ _ l)
 
-    pub turn-stop : (k : Kind) (bits : ℕ) → word s pos ≡ codeOf k → toldBy bits ≡ judged (valueAt listLimit s (pos + 4) k) → ltb listLimit bits ≡ true → toldBy bits ≡ L
-    turn-stop k bits w is t =
-        stopped bits _ (rest (left - 1) (common seen (codeOf k))) is t ∙ sym (inv ∙ more-value k left seen pos more cut in₄ w)
+    pub turn-stop : (k : Kind) (bits bits′ : ℕ) → word s pos ≡ codeOf k → toldBy bits ≡ judged (valueAt listLimit s (pos + 4) k) → ltb listLimit bits ≡ true
+        → toldBy bits′ ≡ enclosing (toldBy bits) → toldBy bits′ ≡ L
+    turn-stop k bits bits′ w is t c =
+        stopped bits bits′ _ (rest (left - 1) (common seen (codeOf k))) is t c ∙ sym (inv ∙ more-value k left seen pos more cut in₄ w)
 
     module _ (code bits : ℕ) (w : code ≡ word s pos) (c : isListCode code ≡ true) (is : toldBy bits ≡ judged (inner pos code)) where
       whole : L ≡ thenGo (judged (inner pos code)) (rest (left - 1) listCode)
@@ -108,8 +111,8 @@ module _ (inner : ℕ → ℕ → Parsed Elements) (s : List ℕ) (at : ℕ) whe
       pub turn-list : ltb listLimit bits ≡ false → (L ≡ rest (left - 1) listCode bits) × (bits ≤ listLimit)
       turn-list t = (whole ∙ went-on bits _ (rest (left - 1) listCode) is t, ltb-false listLimit bits t)
 
-      pub turn-bad : ltb listLimit bits ≡ true → toldBy bits ≡ L
-      turn-bad t = stopped bits _ (rest (left - 1) listCode) is t ∙ sym whole
+      pub turn-bad : (bits′ : ℕ) → ltb listLimit bits ≡ true → toldBy bits′ ≡ enclosing (toldBy bits) → toldBy bits′ ≡ L
+      turn-bad bits′ t c = stopped bits bits′ _ (rest (left - 1) listCode) is t c ∙ sym whole
 
 -- AN ELEMENT whose code is there
 module _ (inner : ℕ → ℕ → Parsed Elements) (s : List ℕ) (at code : ℕ) (cut : length s ≤ listLimit) (in₄ : at + 4 ≤ length s) (w : code ≡ word s at) where
@@ -128,44 +131,51 @@ module _ (inner : ℕ → ℕ → Parsed Elements) (s : List ℕ) (at code : ℕ
   pub coded-list : (r : Refusal) → isListCode code ≡ true → inner at code ≡ bad r → codedAt inner listLimit s at ≡ bad r
   coded-list r c e = coded ∙ rw (c, e)
 
+-- HOW MANY LISTS are open at a refusal, where at most d may stand in one another
+pub list-depth : (d : ℕ) (s : List ℕ) (at code bits : ℕ) → toldBy bits ≡ judged (listAt d listLimit s at code) → depthOf bits ≤ d
+list-depth d s at code bits is = told-depth bits d (listAt d listLimit s at code) is (λ r e. list-shallow listLimit s d at code r e)
+
+pub coded-depth : (d : ℕ) (s : List ℕ) (at bits : ℕ) → Refuses bits (codedAt (listAt d listLimit s) listLimit s at) → (listLimit < bits) × (depthOf bits ≤ d)
+coded-depth d s at bits is = refuses-depth bits d (codedAt (listAt d listLimit s) listLimit s at) is (λ r e. coded-shallow listLimit s d at r e)
+
 -- A LIST behind its code, where lists may stand in one another
 pub shallow : (d : ℕ) (s : List ℕ) (at code : ℕ) → d ≡ 0 → listAt d listLimit s at code ≡ bad (refusal 27 at)
 unfolding listAt
 shallow d s at code e = rw e
 
-pub short : (d : ℕ) (s : List ℕ) (at code : ℕ) → (d ≡ 0 → ⊥) → length s < at + 8 → listAt d listLimit s at code ≡ bad (missingAt (at + 4) 4)
-unfolding listAt
+pub short : (d : ℕ) (s : List ℕ) (at code : ℕ) → (d ≡ 0 → ⊥) → length s < at + 8 → listAt d listLimit s at code ≡ bad (enclosed (missingAt (at + 4) 4))
+unfolding listAt bodyAt
 short zero s at code deep h = absurd (deep refl)
-short (suc d) s at code deep h = item-missing s (at + 4) 4 _ (omega arith)
+short (suc d) s at code deep h = ap inList (item-missing s (at + 4) 4 _ (omega arith))
 
-finish : (at : ℕ) (p : Parsed Elements) → judged (finished listCode at p) ≡ closing at 0 p
+finish : (at : ℕ) (p : Parsed Elements) → judged (inList (finished listCode at p)) ≡ closing at 0 p
 unfolding closeOf
 finish at (good es end) = go (eqb listCode (listCodeOf es))
   where
-    go : (b : Bool) → judged (cond b (good es end) (bad (refusal 24 at))) ≡ cond b (accepted end) (refused (refusal 24 at))
+    go : (b : Bool) → judged (inList (cond b (good es end) (bad (refusal 24 at)))) ≡ cond b (accepted end) (refused (refusalAt 24 at 1))
     go true = refl
     go false = refl
 finish at (bad r) = refl
 
 module _ (d : ℕ) (s : List ℕ) (at code count : ℕ) (deep : d ≡ 0 → ⊥) (cut : length s ≤ listLimit) (in₈ : at + 8 ≤ length s) (n : count ≡ word s (at + 4)) where
   opened : listAt d listLimit s at code
-      ≡ cond (negative count) (bad (refusal 23 (at + 4)))
-      (finished code at (elementsAt (listAt (d - 1) listLimit s) listLimit s (kindOf (code - listCode)) count (at + 8)))
-  unfolding listAt
+      ≡ inList (cond (negative count) (bad (refusal 23 (at + 4)))
+      (finished code at (elementsAt (listAt (d - 1) listLimit s) listLimit s (kindOf (code - listCode)) count (at + 8))))
+  unfolding listAt bodyAt
   opened = go d deep
     where
       go : (d : ℕ) → (d ≡ 0 → ⊥) → listAt d listLimit s at code
-          ≡ cond (negative count) (bad (refusal 23 (at + 4)))
-          (finished code at (elementsAt (listAt (d - 1) listLimit s) listLimit s (kindOf (code - listCode)) count (at + 8)))
+          ≡ inList (cond (negative count) (bad (refusal 23 (at + 4)))
+          (finished code at (elementsAt (listAt (d - 1) listLimit s) listLimit s (kindOf (code - listCode)) count (at + 8))))
       go zero deep = absurd (deep refl)
       go (suc d) deep = rw (there s (at + 4) 4 cut (omega arith), n, sub-one)
 
-  pub is-negative : negative count ≡ true → judged (listAt d listLimit s at code) ≡ refused (refusal 23 (at + 4))
+  pub is-negative : negative count ≡ true → judged (listAt d listLimit s at code) ≡ refused (refusalAt 23 (at + 4) 1)
   is-negative e = rw (opened, e)
 
   -- a list code that names a kind, or none
   module _ (e : negative count ≡ false) where
-    pub is-typed : (k : Kind) → code ≡ typedCode k → judged (finished (typedCode k) at (typedAt listLimit s k count (at + 8))) ≡ judged (listAt d listLimit s at code)
+    pub is-typed : (k : Kind) → code ≡ typedCode k → judged (inList (finished (typedCode k) at (typedAt listLimit s k count (at + 8)))) ≡ judged (listAt d listLimit s at code)
     is-typed k q = sym (rw (opened, e, q, kind-of-typed k))
 
     pub is-mixed : code ≡ listCode → judged (listAt d listLimit s at code) ≡ rest (listAt (d - 1) listLimit s) s at count 0 (at + 8)

@@ -11,51 +11,59 @@ use lib.ListN.{length}
 use borrow.Author.Tests.{eq-eqb, ltb-true, ltb-false}
 use Rattle.list.specs.declared.Kind.{Kind}
 use Rattle.list.specs.declared.Kind.the-variants.{Int, Float, Str, Blob, Vocab}
-use Rattle.list.specs.Limits.{listLimit}
+use Rattle.list.specs.Limits.{listLimit, depthLimit}
 use Rattle.list.specs.Kind.{codeOf, sizeOf, typedCode}
-use Rattle.list.specs.Refusal.{refusal}
+use Rattle.list.specs.Refusal.{refusal, refusalAt, enclosed}
 use Rattle.list.specs.Tree.{Value, Elements, none, value, list, count}
 use Rattle.list.specs.Bytes.{listCodeOf}
-use Rattle.list.specs.Parse.{Parsed, good, bad, andThen, stringAt, blobAt, valueAt, typedAt, finished}
+use Rattle.list.specs.Parse.{Parsed, good, bad, andThen, inList, stringAt, blobAt, valueAt, typedAt, finished}
 use Rattle.list.proofs.Codes.{kind-same, code-none, code-all, AllKind, typed-no-list}
 use Rattle.list.proofs.TypedRun.{Fixed}
+use Rattle.list.proofs.Shallow.{value-shallow}
 use Rattle.list_check.specs.Check.{Verdict, accepted, refused, judged}
-use Rattle.list_check.specs.Steps.{toldBy, missingAt, runKind, TypedAnswer}
-use Rattle.list_check.proofs.Told.{thenGo, stopped, went-on, item-missing, there}
+use Rattle.list_check.specs.Steps.{toldBy, depthOf, enclosing, missingAt, runKind, TypedAnswer}
+use Rattle.list_check.proofs.Told.{thenGo, stopped, went-on, told-depth, item-missing, there}
 use Rattle.list_check.proofs.KindRead.{typed-kind}
 
-kept : {A B : Type 0} (p : Parsed A) (f : A → B) → judged (andThen p (λ a end. good (f a) end)) ≡ judged p
+kept : {A B : Type 0} (p : Parsed A) (f : A → B) → judged (inList (andThen p (λ a end. good (f a) end))) ≡ judged (inList p)
 kept (good a n) f = refl
 kept (bad r) f = refl
 
 module _ (s : List ℕ) (k : Kind) where
   -- ELEMENTS ONE BY ONE
   each-more : (left pos : ℕ) → 0 < left
-      → judged (typedAt listLimit s k left pos) ≡ thenGo (judged (valueAt listLimit s pos k)) (λ next. judged (typedAt listLimit s k (left - 1) next))
+      → judged (inList (typedAt listLimit s k left pos))
+      ≡ thenGo (judged (valueAt listLimit s pos k)) (λ next. judged (inList (typedAt listLimit s k (left - 1) next)))
   unfolding typedAt
   each-more zero pos h = absurd (omega arith)
   each-more (suc left) pos h = simp sub-one (go (valueAt listLimit s pos k))
     where
       go : (p : Parsed Value)
-          → judged (andThen p (λ v next. andThen (typedAt listLimit s k left next) (λ es end. good (value v es) end)))
-          ≡ thenGo (judged p) (λ next. judged (typedAt listLimit s k left next))
+          → judged (inList (andThen p (λ v next. andThen (typedAt listLimit s k left next) (λ es end. good (value v es) end))))
+          ≡ thenGo (judged p) (λ next. judged (inList (typedAt listLimit s k left next)))
       go (good v next) = kept (typedAt listLimit s k left next) (value v)
       go (bad r) = refl
 
-  pub each-done : (left pos : ℕ) → left ≤ 0 → judged (typedAt listLimit s k left pos) ≡ accepted pos
+  pub each-done : (left pos : ℕ) → left ≤ 0 → judged (inList (typedAt listLimit s k left pos)) ≡ accepted pos
   unfolding typedAt
   each-done zero pos h = refl
   each-done (suc left) pos h = absurd (omega arith)
 
   -- one turn of the loop over them. L is the whole run's answer
-  module _ (L : Verdict) (left pos next : ℕ) (inv : L ≡ judged (typedAt listLimit s k left pos)) (more : 0 < left)
+  module _ (L : Verdict) (left pos next : ℕ) (inv : L ≡ judged (inList (typedAt listLimit s k left pos))) (more : 0 < left)
       (is : toldBy next ≡ judged (valueAt listLimit s pos k)) where
-    pub each-stops : ltb listLimit next ≡ true → toldBy next ≡ L
-    each-stops t = stopped next _ (λ n. judged (typedAt listLimit s k (left - 1) n)) is t ∙ sym (inv ∙ each-more left pos more)
+    pub each-stops : (bits : ℕ) → ltb listLimit next ≡ true → toldBy bits ≡ enclosing (toldBy next) → toldBy bits ≡ L
+    each-stops bits t c = stopped next bits _ (λ n. judged (inList (typedAt listLimit s k (left - 1) n))) is t c ∙ sym (inv ∙ each-more left pos more)
 
-    pub each-goes : ltb listLimit next ≡ false → (L ≡ judged (typedAt listLimit s k (left - 1) next)) × (next ≤ listLimit)
+    pub each-goes : ltb listLimit next ≡ false → (L ≡ judged (inList (typedAt listLimit s k (left - 1) next))) × (next ≤ listLimit)
     each-goes t =
-        (inv ∙ each-more left pos more ∙ went-on next _ (λ n. judged (typedAt listLimit s k (left - 1) n)) is t, ltb-false listLimit next t)
+        (inv ∙ each-more left pos more ∙ went-on next _ (λ n. judged (inList (typedAt listLimit s k (left - 1) n))) is t, ltb-false listLimit next t)
+
+-- no list is open inside a value, so its refusal may be given one
+pub value-enclose : (s : List ℕ) (k : Kind) (at bits : ℕ) → toldBy bits ≡ judged (valueAt listLimit s at k) → ltb listLimit bits ≡ true
+    → (listLimit < bits) × (depthOf bits < depthLimit)
+value-enclose s k at bits is t =
+    (ltb-true listLimit bits t, omega (arith, told-depth bits 0 (valueAt listLimit s at k) is (λ r e. value-shallow listLimit s k at r e)))
 
 pub size-small : (k : Kind) → (4 ≤ sizeOf k) × (sizeOf k ≤ 8)
 size-small Int = omega arith
@@ -114,14 +122,15 @@ abbrev pub wholeEnd : List ℕ → Kind → ℕ → ℕ
 wholeEnd s k at = at + (length s - at) / sizeOf k * sizeOf k
 
 pub run-missing : (s : List ℕ) (k : Kind) (n at : ℕ) → Fixed k → length s ≤ listLimit → at ≤ length s → length s < at + sizeOf k * n
-    → judged (typedAt listLimit s k n at) ≡ refused (missingAt (wholeEnd s k at) (sizeOf k))
+    → judged (inList (typedAt listLimit s k n at)) ≡ refused (enclosed (missingAt (wholeEnd s k at) (sizeOf k)))
 run-missing s k zero at x f i h = absurd (omega arith)
 run-missing s k (suc n) at x f i h =
     go (ltb (length s) (at + sizeOf k)) refl (λ j. run-missing s k n (at + sizeOf k) x f j (omega (arith, mul-suc (sizeOf k) n)))
   where
     go : (b : Bool) → ltb (length s) (at + sizeOf k) ≡ b
-        → (at + sizeOf k ≤ length s → judged (typedAt listLimit s k n (at + sizeOf k)) ≡ refused (missingAt (wholeEnd s k (at + sizeOf k)) (sizeOf k)))
-        → judged (typedAt listLimit s k (suc n) at) ≡ refused (missingAt (wholeEnd s k at) (sizeOf k))
+        → (at + sizeOf k ≤ length s
+        → judged (inList (typedAt listLimit s k n (at + sizeOf k))) ≡ refused (enclosed (missingAt (wholeEnd s k (at + sizeOf k)) (sizeOf k))))
+        → judged (inList (typedAt listLimit s k (suc n) at)) ≡ refused (enclosed (missingAt (wholeEnd s k at) (sizeOf k)))
     go true e next =
         let l = ltb-true (length s) (at + sizeOf k) e in
         let q : wholeEnd s k at ≡ at = omega (arith, fitting-none k (length s - at) x (omega arith)) in
@@ -132,23 +141,24 @@ run-missing s k (suc n) at x f i h =
         each-more s k (suc n) at (omega arith) ∙ simp (fixed-there s k at x f l, sub-one) (next l ∙ rw q)
 
 -- BEHIND ITS COUNT a typed list has an element, and then its code is the one that the elements call for
-pub typed-none : (s : List ℕ) (k : Kind) (at pos : ℕ) → judged (finished (typedCode k) at (typedAt listLimit s k 0 pos)) ≡ refused (refusal 24 at)
+pub typed-none : (s : List ℕ) (k : Kind) (at pos : ℕ) → judged (inList (finished (typedCode k) at (typedAt listLimit s k 0 pos))) ≡ refused (refusalAt 24 at 1)
 unfolding typedAt
 typed-none s k at pos = rw (code-none, typed-no-list k)
 
 pub typed-some : (s : List ℕ) (k : Kind) (at n pos : ℕ) → 0 < n
-    → judged (typedAt listLimit s k n pos) ≡ judged (finished (typedCode k) at (typedAt listLimit s k n pos))
+    → judged (inList (typedAt listLimit s k n pos)) ≡ judged (inList (finished (typedCode k) at (typedAt listLimit s k n pos)))
 typed-some s k at n pos h = go (typedAt listLimit s k n pos) refl
   where
     right : (es : Elements) (end : ℕ) → (count es ≡ n) × AllKind k es
-        → accepted end ≡ judged (cond (eqb (typedCode k) (listCodeOf es)) (good es end) (bad (refusal 24 at)))
+        → accepted end ≡ judged (inList (cond (eqb (typedCode k) (listCodeOf es)) (good es end) (bad (refusal 24 at))))
     right none end w = absurd (omega (arith, w .0))
     right (value v es) end w = rw (code-all k v es (w .1), eq-eqb (typedCode k) (typedCode k) refl)
     right (list inner es) end w = absurd (w .1)
 
-    go : (p : Parsed Elements) → typedAt listLimit s k n pos ≡ p → judged p ≡ judged (finished (typedCode k) at p)
+    go : (p : Parsed Elements) → typedAt listLimit s k n pos ≡ p → judged (inList p) ≡ judged (inList (finished (typedCode k) at p))
     go (good es end) e = right es end (typed-kind listLimit s k n pos es end e)
     go (bad r) e = refl
 
-pub typed-is : (s : List ℕ) (l : Kind) (at code n bits : ℕ) → code ≡ codeOf l → 0 < n → toldBy bits ≡ judged (typedAt listLimit s l n (at + 8)) → TypedAnswer s at code n bits
+pub typed-is : (s : List ℕ) (l : Kind) (at code n bits : ℕ) → code ≡ codeOf l → 0 < n → toldBy bits ≡ judged (inList (typedAt listLimit s l n (at + 8)))
+    → TypedAnswer s at code n bits
 typed-is s l at code n bits c h e k q = let f : l ≡ k = kind-same l k (sym c ∙ q) in rw f at (e ∙ typed-some s l at n (at + 8) h)

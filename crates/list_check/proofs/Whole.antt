@@ -1,6 +1,6 @@
 -- An area as one list, case by case.
 use Prim.Native.Nat.{ℕ, _≤_, _<_}
-use mathlib.Core.Path.{_≡_, refl, sym, ap, _∙_}
+use mathlib.Core.Path.{_≡_, refl, sym, ap, subst, _∙_}
 use mathlib.Core.Bool.{Bool, true, false, cond}
 use mathlib.Core.List.{List, [], _∷_, _++_, append-nil}
 use native.Mathlib.Omega.{arith}
@@ -14,7 +14,9 @@ use Rattle.list.specs.Tree.{Elements}
 use Rattle.list.specs.Bytes.{listBytes}
 use Rattle.list.specs.Legal.{Legal}
 use Rattle.list.specs.Parse.{Parsed, good, bad, andThen, parse}
+use Rattle.list.specs.Open.{openAt, depthAt}
 use Rattle.list.proofs.Complete.{complete}
+use Rattle.list.proofs.Depth.{depth-open, closed-behind}
 use Rattle.list.proofs.Sound.{SaneRefusal, sound, within, reaches}
 use Rattle.list_check.specs.Check.{accepted, refused, judged, whole, IsWhole, faultOf}
 use Rattle.list_check.proofs.Promised.{was-read, was-bad}
@@ -54,18 +56,28 @@ module _ (s : List ℕ) where
       let rest : drop end s ≡ [] = drop-of-length-le s {i = end} (omega (arith, p .1)) in
       (w .0, w .2 ∙ ap (λ (l : List ℕ). listBytes es ++ l) rest ∙ append-nil (listBytes es))
 
+  -- what holds of every refusal of the list at the front, and of 29 behind a list, holds of every fault
+  fault-all : (P : Refusal → Type 0) → ((r : Refusal) → parse listLimit s ≡ bad r → P r) → ((es : Elements) (n : ℕ) → parse listLimit s ≡ good es n → P (refusal 29 n))
+      → (r : Refusal) → whole s ≡ bad r → P r
+  unfolding whole
+  fault-all P front left r h = go (parse listLimit s) refl h
+    where
+      test : (es : Elements) (n : ℕ) (b : Bool) → P (refusal 29 n) → cond b (good es n) (bad (refusal 29 n)) ≡ bad r → P r
+      test es n true f q = absurd (let z : _≡_ {A = ℕ} 0 1 = cc in omega arith)
+      test es n false f q = let e : refusal 29 n ≡ r = cc in subst P e f
+
+      go : (p : Parsed Elements) → parse listLimit s ≡ p → andThen p (λ es n. cond (eqb n (length s)) (good es n) (bad (refusal 29 n))) ≡ bad r → P r
+      go (good es n) e q = test es n (eqb n (length s)) (left es n e) q
+      go (bad f) e q = let g : f ≡ r = cc in subst P g (front f e)
+
   -- a fault has a number of list reading, so never 20, or 29, and is not past the end
   pub fault-sane : (r : Refusal) → whole s ≡ bad r → SaneRefusal s r
-  unfolding whole
-  fault-sane r h = go (parse listLimit s) refl h
-    where
-      test : (es : Elements) (n : ℕ) (b : Bool) → n ≤ length s → cond b (good es n) (bad (refusal 29 n)) ≡ bad r → SaneRefusal s r
-      test es n true f q = absurd (let z : _≡_ {A = ℕ} 0 1 = cc in omega arith)
-      test es n false f q = let e : refusal 29 n ≡ r = cc in rw (← e) (record { low = omega arith; high = omega arith; inside = f })
+  fault-sane = fault-all (SaneRefusal s) (within listLimit s)
+      (λ es n e. record { low = omega arith; high = omega arith; inside = reaches listLimit s es n e .1 })
 
-      go : (p : Parsed Elements) → parse listLimit s ≡ p → andThen p (λ es n. cond (eqb n (length s)) (good es n) (bad (refusal 29 n))) ≡ bad r → SaneRefusal s r
-      go (good es n) e q = test es n (eqb n (length s)) (reaches listLimit s es n e .1) q
-      go (bad f) e q = let g : f ≡ r = cc in rw (← g) (within listLimit s f e)
+  -- LAW: its depth is that of the lists open at the fault; where bytes are left after the list, none is
+  pub fault-open : (r : Refusal) → whole s ≡ bad r → r .depth ≡ depthAt s (r .number) (r .offset)
+  fault-open = fault-all (λ r. r .depth ≡ depthAt s (r .number) (r .offset)) (depth-open listLimit s) (λ es n e. omega (arith, closed-behind listLimit s es n e))
 
   -- by the number of the fault
   pub is-whole : (r : Refusal) → r ≡ faultOf (whole s) → r .number ≤ 0 → IsWhole s

@@ -12,7 +12,8 @@ use Rattle.list.specs.Parse.{Parsed, good, bad, andThen, parse}
 use Rattle.list_check.specs.declared.Checked as code
 use Rattle.list_check.specs.declared.Checked.the-variants.{Ok, Refused}
 
--- what judging finds: where the list ends, or the number of the refusal and "the place of the item at fault"
+-- what judging finds: where the list ends, or the number of the refusal, "the place of the item at fault" and "the number of lists open at
+-- the fault"
 pub data Verdict : Type 0 where
   accepted : (end : ℕ) → Verdict
   refused : Refusal → Verdict
@@ -31,7 +32,8 @@ judged (bad r) = refused r
 abbrev pub checkingOf : List ℕ → Verdict
 checkingOf s = judged (parse listLimit s)
 
--- an area that is to be one list: "29, bytes left after a list, at the first of them, comes last"
+-- an area that is to be one list: "29, bytes left after a list, at the first of them, comes last";
+-- "0 .. for 20 and 29"
 unfoldable pub whole : List ℕ → Parsed Elements
 whole s = andThen (parse listLimit s) (λ es end. cond (eqb end (length s)) (good es end) (bad (refusal 29 end)))
 

@@ -8,17 +8,26 @@ use Rattle.list.specs.Limits.{listLimit}
 use Rattle.list.specs.declared.Kind.{Kind}
 use Rattle.list.specs.declared.Kind.the-variants.{Str, Blob}
 use Rattle.list.specs.Kind.{codeOf, listCode, typedCode}
-use Rattle.list.specs.Refusal.{Refusal, refusal}
+use Rattle.list.specs.Refusal.{Refusal, refusal, refusalAt, enclosed}
 use Rattle.list.specs.Bytes.{codeFor}
-use Rattle.list.specs.Parse.{Parsed, good, bad, typedAt, finished}
+use Rattle.list.specs.Parse.{Parsed, good, bad, inList, typedAt, finished}
 use Rattle.list_check.specs.Check.{Verdict, accepted, refused, judged}
+
+-- the lists that the checker's number counts around a refusal
+abbrev pub depthOf : ℕ → ℕ
+depthOf bits = bits / (256 * (2 * listLimit))
 
 -- what the checker's number says: an offset up to the limit, or a refusal
 unfoldable pub toldBy : ℕ → Verdict
 toldBy bits =
     cond (ltb listLimit bits)
-    (refused (refusal (bits / (2 * listLimit) % 256) (bits % (2 * listLimit))))
+    (refused (refusalAt (bits / (2 * listLimit) % 256) (bits % (2 * listLimit)) (depthOf bits)))
     (accepted bits)
+
+-- a verdict on what stands in a list, seen from outside it
+abbrev pub enclosing : Verdict → Verdict
+enclosing (accepted end) = accepted end
+enclosing (refused r) = refused (enclosed r)
 
 -- a number that tells the refusal of what was to be read
 abbrev pub Refuses : {A : Type 0} → ℕ → Parsed A → Type 0
@@ -37,7 +46,7 @@ firstZero (suc b ∷ bs) = suc (firstZero bs)
 
 -- behind the last element: the list's code 256, at `at`, must be the one that the elements call for
 unfoldable pub closeOf : ℕ → ℕ → ℕ → Verdict
-closeOf at seen end = cond (eqb listCode (codeFor seen)) (accepted end) (refused (refusal 24 at))
+closeOf at seen end = cond (eqb listCode (codeFor seen)) (accepted end) (refused (refusalAt 24 at 1))
 
 -- the kind of a run of bytes behind its length: is it a string
 abbrev pub runKind : Bool → Kind
@@ -47,4 +56,4 @@ runKind false = Blob
 -- a number that tells of a typed list of n elements, by the code of its kind
 abbrev pub TypedAnswer : List ℕ → ℕ → ℕ → ℕ → ℕ → Type 0
 TypedAnswer s at code n bits =
-    (k : Kind) → code ≡ codeOf k → toldBy bits ≡ judged (finished (typedCode k) at (typedAt listLimit s k n (at + 8)))
+    (k : Kind) → code ≡ codeOf k → toldBy bits ≡ judged (inList (finished (typedCode k) at (typedAt listLimit s k n (at + 8))))

@@ -17,14 +17,14 @@ ghost use mathlib.Core.Bool.{true};
 ghost use Prim.Native.Nat.{_+_, _≤_, _<_, _^_, min};
 ghost use lib.Dec.{ltb};
 ghost use lib.ListN.{length};
-ghost use Rattle.list.specs.Limits.{listLimit};
+ghost use Rattle.list.specs.Limits.{listLimit, depthLimit};
 ghost use Rattle.list.specs.Kind.{sizeOf};
 ghost use Rattle.list.specs.Refusal.{refusal, refusalOf};
 ghost use Rattle.list.specs.Strings.{closed};
-ghost use Rattle.list.specs.Parse.{word, valueAt, typedAt, isListCode, codedAt, listAt, parse};
+ghost use Rattle.list.specs.Parse.{inList, word, valueAt, typedAt, isListCode, codedAt, listAt, parse};
 ghost use Rattle.list.proofs.TypedRun.{Fixed};
 ghost use Rattle.list_check.specs.Check.{refused, judged, verdictOf, checkingOf, whole, faultOf};
-ghost use Rattle.list_check.specs.Steps.{toldBy, missingAt, firstZero, closeOf, Refuses, runKind, TypedAnswer};
+ghost use Rattle.list_check.specs.Steps.{toldBy, depthOf, enclosing, missingAt, firstZero, closeOf, Refuses, runKind, TypedAnswer};
 
 // The offset behind what was judged, or why it is refused.
 pub enum Checked {
@@ -33,10 +33,14 @@ pub enum Checked {
 }
 
 // Inside, an answer is one number, which stays in a register (a struct would go through memory): an offset up to the limit,
-// or from FAULT on a refusal. `refuse` makes one and `refusal_of` takes it apart; between them it is handed on whole.
+// or from FAULT on a refusal. `refuse` makes one that counts no list, `in_list` adds each list around it and `refusal_of` takes
+// it apart; between them it is handed on whole. So the depth costs nothing where a list is accepted.
 type Judged = usize;
 
 const FAULT: usize = 2 * LIST_LIMIT;
+
+// One list in it: behind the error, which is a byte.
+const LEVEL: usize = 256 * FAULT;
 
 fn refuse(error: u8, offset: usize) -> Judged
     requires { ⌜ (0 < error) × (offset ≤ listLimit) ⌝ }
@@ -51,17 +55,27 @@ fn is_refused(j: Judged) -> bool
     LIST_LIMIT < j
 }
 
+// A refusal of what stands in a list, seen from outside it. It counts fewer lists than may be open.
+fn in_list(j: Judged) -> Judged
+    requires { ⌜ (listLimit < j) × (depthOf j < depthLimit) ⌝ }
+    ensures { λ r. ⌜ toldBy r ≡ enclosing (toldBy j) ⌝ }
+{
+    LEVEL + j
+}
+
 fn refusal_of(j: Judged) -> Refusal
-    requires { ⌜ listLimit < j ⌝ }
+    requires { ⌜ (listLimit < j) × (depthOf j ≤ depthLimit) ⌝ }
     ensures { λ r. ⌜ refused (refusalOf r) ≡ toldBy j ⌝ }
 {
     Refusal {
         error: (j / FAULT % 256) as u8,
         offset: j % FAULT,
+        depth: (j / LEVEL) as u8,
     }
 }
 
 fn answer(j: Judged) -> Checked
+    requires { ⌜ depthOf j ≤ depthLimit ⌝ }
     ensures { λ r. ⌜ verdictOf r ≡ toldBy j ⌝ }
 {
     if is_refused(j) {
@@ -163,14 +177,14 @@ fn check_run(s: &[u8], at: usize, string: bool) -> Judged
 // The strings or the blobs of a typed list. The compiler makes a loop for each.
 fn check_each(s: &[u8], at: usize, string: bool, n: usize) -> Judged
     requires { ⌜ (at ≤ listLimit) × (length (now s) ≤ listLimit) ⌝ }
-    ensures { λ r. ⌜ toldBy r ≡ judged (typedAt listLimit (now (s .entry)) (runKind string) n at) ⌝ }
+    ensures { λ r. ⌜ toldBy r ≡ judged (inList (typedAt listLimit (now (s .entry)) (runKind string) n at)) ⌝ }
 {
     let mut pos = at;
     let mut left = n;
     while 0 < left {
         let next = check_run(s, pos, string);
         if is_refused(next) {
-            return next;
+            return in_list(next);
         }
         pos = next;
         left -= 1;
@@ -181,11 +195,11 @@ fn check_each(s: &[u8], at: usize, string: bool, n: usize) -> Judged
 // The elements of a typed list that have a fixed size: one test where all of them are there, else the first that is not.
 fn check_all(s: &[u8], at: usize, kind: Kind, n: usize) -> Judged
     requires { ⌜ Fixed kind × (at ≤ length (now s)) × (length (now s) ≤ listLimit) × (n < 2 ^ 32) ⌝ }
-    ensures { λ r. ⌜ toldBy r ≡ judged (typedAt listLimit (now (s .entry)) kind n at) ⌝ }
+    ensures { λ r. ⌜ toldBy r ≡ judged (inList (typedAt listLimit (now (s .entry)) kind n at)) ⌝ }
 {
     let size = kind.size();
     if s.len() < at + size * n {
-        return missing(at + (s.len() - at) / size * size, size);
+        return in_list(missing(at + (s.len() - at) / size * size, size));
     }
     at + size * n
 }
@@ -196,7 +210,7 @@ fn typed_list(s: &[u8], at: usize, code: u32, n: usize) -> Judged
     ensures { λ r. ⌜ TypedAnswer (now (s .entry)) at code n r ⌝ }
 {
     if n == 0 {
-        return refuse(24, at);
+        return in_list(refuse(24, at));
     }
     let first = at + 2 * NUMBER;
     match code {
@@ -205,7 +219,7 @@ fn typed_list(s: &[u8], at: usize, code: u32, n: usize) -> Judged
         Kind::FLOAT => check_all(s, first, Kind::Float, n),
         Kind::STR => check_each(s, first, true, n),
         Kind::BLOB => check_each(s, first, false, n),
-        _ => refuse(24, at),
+        _ => in_list(refuse(24, at)),
     }
 }
 
@@ -246,7 +260,7 @@ fn tail_fault(s: &[u8], pos: usize, depth: usize) -> Judged
         if depth == 0 {
             return refuse(27, pos);
         }
-        return missing(pos + NUMBER, NUMBER);
+        return in_list(missing(pos + NUMBER, NUMBER));
     }
     match Kind::of_code(code) {
         KindFound::Is(kind) => missing_value(pos, kind),
@@ -273,19 +287,19 @@ fn close(at: usize, seen: u32, end: usize) -> Judged
     if seen == LIST_CODE {
         return end;
     }
-    refuse(24, at)
+    in_list(refuse(24, at))
 }
 
 // A list whose code and count stand at `at`, where `depth` lists may stand in one another, this one included.
 fn check_list(s: &[u8], at: usize, code: u32, count: u32, depth: usize) -> Judged
-    requires { ⌜ (at + 8 ≤ length (now s)) × (length (now s) ≤ listLimit) × (isListCode code ≡ true) × (count ≡ word (now s) (at + 4)) ⌝ }
+    requires { ⌜ (at + 8 ≤ length (now s)) × (length (now s) ≤ listLimit) × (isListCode code ≡ true) × (count ≡ word (now s) (at + 4)) × (depth ≤ depthLimit) ⌝ }
     ensures { λ r. ⌜ toldBy r ≡ judged (listAt depth listLimit (now (s .entry)) at code) ⌝ }
 {
     if depth == 0 {
         return refuse(27, at);
     }
     if NEGATIVE <= count {
-        return refuse(23, at + NUMBER);
+        return in_list(refuse(23, at + NUMBER));
     }
     if code != LIST_CODE {
         return typed_list(s, at, code - LIST_CODE, count as usize);
@@ -295,7 +309,7 @@ fn check_list(s: &[u8], at: usize, code: u32, count: u32, depth: usize) -> Judge
     let mut seen: u32 = 0;
     while 0 < left {
         if s.len() < pos + 2 * NUMBER {
-            return tail_fault(s, pos, depth - 1);
+            return in_list(tail_fault(s, pos, depth - 1));
         }
         let kind = u32_at(s, pos);
         match kind {
@@ -310,7 +324,7 @@ fn check_list(s: &[u8], at: usize, code: u32, count: u32, depth: usize) -> Judge
             Kind::FLOAT => {
                 let next = behind(pos, Kind::Float);
                 if s.len() < next {
-                    return missing_value(pos, Kind::Float);
+                    return in_list(missing_value(pos, Kind::Float));
                 }
                 pos = next;
                 seen = common_code(seen, Kind::FLOAT);
@@ -318,7 +332,7 @@ fn check_list(s: &[u8], at: usize, code: u32, count: u32, depth: usize) -> Judge
             Kind::STR => {
                 let next = string_end(s, pos + NUMBER);
                 if is_refused(next) {
-                    return next;
+                    return in_list(next);
                 }
                 pos = next;
                 seen = common_code(seen, Kind::STR);
@@ -326,20 +340,20 @@ fn check_list(s: &[u8], at: usize, code: u32, count: u32, depth: usize) -> Judge
             Kind::BLOB => {
                 let next = blob_end(s, pos + NUMBER);
                 if is_refused(next) {
-                    return next;
+                    return in_list(next);
                 }
                 pos = next;
                 seen = common_code(seen, Kind::BLOB);
             }
             _ => {
                 if !is_list_code(kind) {
-                    return refuse(26, pos);
+                    return in_list(refuse(26, pos));
                 }
                 // A copy of the reference, so that the loop keeps its own in registers.
                 let bytes = s;
                 let next = check_list(bytes, pos, kind, u32_at(bytes, pos + NUMBER), depth - 1);
                 if is_refused(next) {
-                    return next;
+                    return in_list(next);
                 }
                 pos = next;
                 seen = LIST_CODE;
@@ -353,13 +367,13 @@ fn check_list(s: &[u8], at: usize, code: u32, count: u32, depth: usize) -> Judge
 // The fault of a list of which less than its code and its count is there.
 fn front_fault(s: &[u8]) -> Judged
     requires { ⌜ length (now s) < 8 ⌝ }
-    ensures { λ r. ⌜ toldBy r ≡ judged (parse listLimit (now (s .entry))) ⌝ }
+    ensures { λ r. ⌜ Refuses r (parse listLimit (now (s .entry))) ⌝ }
 {
     if s.len() < NUMBER {
         return missing(0, NUMBER);
     }
     if is_list_code(u32_at(s, 0)) {
-        return missing(NUMBER, NUMBER);
+        return in_list(missing(NUMBER, NUMBER));
     }
     refuse(22, 0)
 }
@@ -423,14 +437,12 @@ pub fn check(s: &[u8]) -> Checked
     answer(check_front(&s[0..end]))
 }
 
-// The list at the front. Of the codes that have a way of their own in `check_front` only that of the empty list has one here.
+// The list at the front, whose code and count are there. Of the codes that have a way of their own in `check_front` only that of
+// the empty list has one here.
 fn check_any(s: &[u8]) -> Judged
-    requires { ⌜ length (now s) ≤ listLimit ⌝ }
+    requires { ⌜ (8 ≤ length (now s)) × (length (now s) ≤ listLimit) ⌝ }
     ensures { λ r. ⌜ toldBy r ≡ judged (parse listLimit (now (s .entry))) ⌝ }
 {
-    if s.len() < 2 * NUMBER {
-        return front_fault(s);
-    }
     let code = u32_at(s, 0);
     let count = u32_at(s, NUMBER);
     let empty = (code == LIST_CODE) & (count == 0);
@@ -447,6 +459,10 @@ fn check_any(s: &[u8]) -> Judged
 pub fn fault(s: &[u8]) -> Refusal
     ensures { λ r. ⌜ refusalOf r ≡ faultOf (whole (now (s .entry))) ⌝ }
 {
+    // Before the bytes are cut at the limit: an area that is too short has nothing to cut.
+    if s.len() < 2 * NUMBER {
+        return refusal_of(front_fault(s));
+    }
     let end = last_end(s.len());
     let j = check_any(&s[0..end]);
     if is_refused(j) {
@@ -456,10 +472,12 @@ pub fn fault(s: &[u8]) -> Refusal
         return Refusal {
             error: 29,
             offset: j,
+            depth: 0,
         };
     }
     Refusal {
         error: 0,
         offset: 0,
+        depth: 0,
     }
 }

@@ -38,7 +38,7 @@ answered rows store (good es consumed) =
     outcome (accepted consumed (rowCount es) (length (listStore es))) (over (packed (listRows es)) rows) (over (listStore es) store)
 answered rows store (bad r) = outcome (refused r) rows store
 
--- "List reading: 20, then the first fault from the front"; 20 has the offset 0
+-- "List reading: 20, then the first fault from the front"; 20 has the offset 0, and "0 .. for 20 and 29"
 unfoldable pub decodingOf : List ℕ → List ℕ → List ℕ → Outcome Reading
 decodingOf s rows store =
     cond (roomy rows store) (answered rows store (parse listLimit s)) (outcome (refused (refusal 20 0)) rows store)

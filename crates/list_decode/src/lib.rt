@@ -27,6 +27,7 @@ fn no_room() -> Decoded
     Decoded::Refused(Refusal {
         error: 20,
         offset: 0,
+        depth: 0,
     })
 }
 

@@ -16,8 +16,9 @@ use Rattle.list.specs.declared.KindFound.{KindFound}
 use Rattle.list.specs.declared.KindFound.the-variants.{Is, Unknown}
 use Rattle.list.specs.Kind.{codeOf, kindOf, listCode, typedCode}
 use Rattle.list.specs.Parse.{word}
+use Rattle.list.specs.Open.{valueSize}
 use Rattle.list.proofs.Codes.{kind-of-code, code-low, kind-of-typed, not-kind}
-use Rattle.list_skip.specs.Skip.{valueSize, runEnd, typedEnd, stride, listStride, strideOf, strideAt, skipFrom}
+use Rattle.list_skip.specs.Skip.{runEnd, typedEnd, stride, listStride, strideOf, strideAt, skipFrom}
 
 -- a code that is no typed list's
 no-typed : (code : ℕ) → ((k : Kind) → code ≡ typedCode k → ⊥) → kindOf (code - listCode) ≡ Unknown

@@ -18,7 +18,8 @@ use Rattle.list.proofs.Codes.{code-low, kind-of-list, kind-of-typed, typed-no-l
 use Rattle.list.proofs.Complete.{count-le}
 use Rattle.list.proofs.RowBound.{value-size}
 use Rattle.list.proofs.Items.{Stands, stands-length, stands-behind, word-of}
-use Rattle.list_skip.specs.Skip.{valueSize, runEnd, typedEnd, stride, listStride, strideAt, skipFrom, elementsEnd}
+use Rattle.list.specs.Open.{valueSize}
+use Rattle.list_skip.specs.Skip.{runEnd, typedEnd, stride, listStride, strideAt, skipFrom, elementsEnd}
 use Rattle.list_skip.proofs.Ends.{run-step, run-none, stride-value, stride-list, skip-step, skip-none}
 
 module _ (s : List ℕ) (short : length s ≤ listLimit) where

@@ -11,15 +11,8 @@ use Rattle.list.specs.declared.KindFound.the-variants.{Is, Unknown}
 use Rattle.list.specs.Limits.{listLimit}
 use Rattle.list.specs.Kind.{kindOf, sizeOf, listCode}
 use Rattle.list.specs.Parse.{word}
+use Rattle.list.specs.Open.{valueSize}
 use Rattle.list_skip.specs.declared.Stride.{Stride}
-
--- the bytes of a value behind its code: a string's and a blob's are its length and what that counts
-abbrev pub valueSize : List ℕ → ℕ → Kind → ℕ
-valueSize s at Int = sizeOf Int
-valueSize s at Vocab = sizeOf Vocab
-valueSize s at Float = sizeOf Float
-valueSize s at Str = sizeOf Str + word s at
-valueSize s at Blob = sizeOf Blob + word s at
 
 -- the end of n strings or blobs that carry no codes; past the end of the bytes there is none
 unfoldable pub runEnd : List ℕ → ℕ → ℕ → ℕ

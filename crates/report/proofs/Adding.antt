@@ -52,4 +52,4 @@ end-short offset = simp length-append (omega (arith, decimal-short offset))
 
 pub stop-short : (r : Refusal) → length (stopLine r) ≤ lastRoom
 unfolding stopLine
-stop-short r = simp length-append (omega (arith, decimal-short (r .number), decimal-short (r .offset)))
+stop-short r = simp length-append (omega (arith, decimal-short (r .number), decimal-short (r .offset), decimal-short (r .depth)))

@@ -10,6 +10,6 @@ inputLimit = 32768
 abbrev pub leastList : ℕ
 leastList = 8
 
--- the longest last line has two labels, 9 bytes together, two numbers and a newline
+-- the longest last line has three labels, 16 bytes together, three numbers and a newline
 abbrev pub lastRoom : ℕ
-lastRoom = 9 + 2 * digitRoom + 1
+lastRoom = 16 + 3 * digitRoom + 1

@@ -27,10 +27,11 @@ endPieces offset = (101 ∷ 110 ∷ 100 ∷ 32 ∷ []) ∷ decimal offset ∷ ne
 unfoldable pub endLine : ℕ → List ℕ
 endLine offset = joined (endPieces offset)
 
--- `stop 21 at 112`
+-- `stop 21 at 112 depth 0`
 abbrev pub stopPieces : Refusal → List (List ℕ)
 stopPieces r =
-    (115 ∷ 116 ∷ 111 ∷ 112 ∷ 32 ∷ []) ∷ decimal (r .number) ∷ (32 ∷ 97 ∷ 116 ∷ 32 ∷ []) ∷ decimal (r .offset) ∷ newline ∷ []
+    (115 ∷ 116 ∷ 111 ∷ 112 ∷ 32 ∷ []) ∷ decimal (r .number) ∷ (32 ∷ 97 ∷ 116 ∷ 32 ∷ []) ∷ decimal (r .offset)
+    ∷ (32 ∷ 100 ∷ 101 ∷ 112 ∷ 116 ∷ 104 ∷ 32 ∷ []) ∷ decimal (r .depth) ∷ newline ∷ []
 
 unfoldable pub stopLine : Refusal → List ℕ
 stopLine r = joined (stopPieces r)

@@ -25,12 +25,13 @@ pub fn put_end(text: &mut [u8], used: usize, offset: usize) -> usize
     output::put_line(text, used, b"end ", offset as u64)
 }
 
-// `stop 21 at 112`
+// `stop 21 at 112 depth 0`
 pub fn put_stop(text: &mut [u8], used: usize, refusal: Refusal) -> usize
     ensures { λ r. ⌜ Output·output (now (text .exit)) r ≡ puts (Output·output (now (text .entry)) used) (stopPieces (refusalOf refusal)) ⌝ }
 {
-    let at = output::put_number(text, used, b"stop ", refusal.error as u64);
-    output::put_line(text, at, b" at ", refusal.offset as u64)
+    let behind_error = output::put_number(text, used, b"stop ", refusal.error as u64);
+    let behind_offset = output::put_number(text, behind_error, b" at ", refusal.offset as u64);
+    output::put_line(text, behind_offset, b" depth ", refusal.depth as u64)
 }
 
 // `too long`

@@ -2,12 +2,13 @@
 use Prim.Native.Nat.{ℕ}
 use mathlib.Core.Path.{_≡_, refl}
 use mathlib.Core.List.{List, [], _∷_, _++_}
+use lib.ListN.{take}
 use Rattle.wire.specs.Zero.{hasZero}
 use Rattle.wire.specs.Equal.{same}
 use Rattle.list.specs.Kind.{kindOf}
 use Rattle.list.specs.Bytes.{number, codeFor}
-use Rattle.list.specs.Refusal.{refusal}
-use Rattle.list.specs.Parse.{itemFault, stringAt, blobAt, valueAt, typedAt, isListCode, codedAt, mixedAt, listAt, parse}
+use Rattle.list.specs.Refusal.{refusal, refusalAt}
+use Rattle.list.specs.Parse.{itemFault, stringAt, blobAt, valueAt, typedAt, isListCode, codedAt, mixedAt, bodyAt, listAt, parse}
 use Rattle.list_check.specs.Check.{whole}
 use Rattle.setting.specs.Entry.{searchFrom}
 use Rattle.setting.specs.Lookup.{guest, house, found, refused, missing, lookup}
@@ -57,5 +58,6 @@ pub cases :
     × (lookup own (other ++ (0 ∷ [])) a ≡ refused house (refusal 29 109))
     × (lookup own [] a ≡ refused house (refusal 21 0))
     × (lookup [] [] a ≡ refused guest (refusal 21 0))
-unfolding hasZero same kindOf codeFor itemFault stringAt blobAt valueAt typedAt isListCode codedAt mixedAt listAt parse whole searchFrom lookup
-cases = (refl, refl, refl, refl, refl, refl, refl, refl, refl, refl, refl)
+    × (lookup own (take 66 own) a ≡ refused house (refusalAt 21 65 2))
+unfolding hasZero same kindOf codeFor itemFault stringAt blobAt valueAt typedAt isListCode codedAt mixedAt bodyAt listAt parse whole searchFrom lookup
+cases = (refl, refl, refl, refl, refl, refl, refl, refl, refl, refl, refl, refl)

@@ -18,6 +18,7 @@ use Rattle.list.specs.Bytes.{number, elementBytes, listCodeOf, listBytes}
 use Rattle.list.specs.Legal.{LegalElements, Legal}
 use Rattle.list.specs.Refusal.{Refusal}
 use Rattle.list.specs.Parse.{Parsed, good, bad}
+use Rattle.list.specs.Open.{depthAt}
 use Rattle.list.proofs.Codes.{code-is, AllKind, CodeIs, mixed, typed}
 use Rattle.list.proofs.Complete.{no-zero}
 use Rattle.list.proofs.Items.{Stands, stands-front, stands-behind}
@@ -25,7 +26,7 @@ use Rattle.setting.specs.Entry.{Search, at, nowhere, orElse, entry, entr
 use Rattle.setting.specs.Lookup.{Owner, guest, house, Finding, found, refused, choice, decided, lookup, numberOf, answer, areaOf, answerOf}
 use Rattle.setting.specs.Meaning.{Meaning, is, unset, saidBy, meaning, Spelled, FoundIn, Right}
 use Rattle.list_check.specs.Check.{whole}
-use Rattle.list_check.proofs.Whole.{whole-list, whole-spells}
+use Rattle.list_check.proofs.Whole.{whole-list, whole-spells, fault-open}
 use Rattle.setting.proofs.Entries.{entryTree, entry-or-other}
 use Rattle.setting.proofs.Walk.{nextOf}
 use Rattle.setting.proofs.Standing.{entry-setting, stands-next}
@@ -127,9 +128,25 @@ accepted-lists g h key bg bh fine = go (whole g) refl (whole h) refl fine
         let q = whole-spells h fs n bh f in
         ((es, p .0, p .1), (fs, q .0, q .1))
 
+-- LAW: a refusal has the depth of the lists open at its fault in the list that it names
+pub refused-depth : (g h key : List ℕ) (o : Owner) (r : Refusal) → lookup g h key ≡ refused o r → r .depth ≡ depthAt (areaOf o g h) (r .number) (r .offset)
+unfolding lookup
+refused-depth g h key o r e = go (whole g) refl (whole h) refl e
+  where
+    chosen : (x y : Search) → choice x y ≡ refused o r → r .depth ≡ depthAt (areaOf o g h) (r .number) (r .offset)
+    chosen (at i n) y q = absurd (let z : _≡_ {A = ℕ} 0 1 = cc in omega arith)
+    chosen nowhere (at i n) q = absurd (let z : _≡_ {A = ℕ} 0 1 = cc in omega arith)
+    chosen nowhere nowhere q = absurd (let z : _≡_ {A = ℕ} 0 1 = cc in omega arith)
+
+    go : (x : Parsed Elements) → whole g ≡ x → (y : Parsed Elements) → whole h ≡ y → decided key x y ≡ refused o r
+        → r .depth ≡ depthAt (areaOf o g h) (r .number) (r .offset)
+    go (bad f) p y q w = let i : f ≡ r = cc in let j : guest ≡ o = cc in rw (← j, ← i) (fault-open g f p)
+    go (good es m) p (bad f) q w = let i : f ≡ r = cc in let j : house ≡ o = cc in rw (← j, ← i) (fault-open h f q)
+    go (good es m) p (good fs n) q w = chosen (searchIn key es) (searchIn key fs) w
+
 -- LAW: the part that is given back is that string
-pub found-answer : (o : Owner) (g h v : List ℕ) (f : Finding) (w : FoundIn o (areaOf o g h) v f) → answerOf g h f ≡ answer 0 (numberOf o) (w .offset) v
-found-answer o g h v f w = ap (answerOf g h) (w .answers) ∙ ap (answer 0 (numberOf o) (w .offset)) (w .spelled .bytes)
+pub found-answer : (o : Owner) (g h v : List ℕ) (f : Finding) (w : FoundIn o (areaOf o g h) v f) → answerOf g h f ≡ answer 0 (numberOf o) (w .offset) v 0
+found-answer o g h v f w = ap (answerOf g h) (w .answers) ∙ ap (λ (part : List ℕ). answer 0 (numberOf o) (w .offset) part 0) (w .spelled .bytes)
 
 -- no legal string has a zero
 unset-entry : (key : List ℕ) (inner : Elements) (m : Meaning) (d : ℕ) → hasZero key ≡ true → LegalElements d inner → m ≡ unset → saidBy key (entryOf inner) m ≡ unset

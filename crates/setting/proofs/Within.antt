@@ -53,12 +53,12 @@ module _ (g h key : List ℕ) (bg : Bytes g) (bh : Bytes h) where
 
 -- the numbers of an answer and the bytes of its part
 pub answered : (g h : List ℕ) (f : Finding) (l : Located) (p : List ℕ) → l ≡ numbersOf f → p ≡ partOf l g h
-    → answer (l .error) (l .list) (l .offset) p ≡ answerOf g h f
+    → answer (l .error) (l .list) (l .offset) p (l .depth) ≡ answerOf g h f
 answered g h f l p e d =
-    ap (λ (x : List ℕ). answer (l .error) (l .list) (l .offset) x) d
-    ∙ ap (λ (x : Located). answer (x .error) (x .list) (x .offset) (partOf x g h)) e ∙ go f
+    ap (λ (x : List ℕ). answer (l .error) (l .list) (l .offset) x (l .depth)) d
+    ∙ ap (λ (x : Located). answer (x .error) (x .list) (x .offset) (partOf x g h) (x .depth)) e ∙ go f
   where
-    go : (x : Finding) → answer (numbersOf x .error) (numbersOf x .list) (numbersOf x .offset) (partOf (numbersOf x) g h) ≡ answerOf g h x
+    go : (x : Finding) → answer (numbersOf x .error) (numbersOf x .list) (numbersOf x .offset) (partOf (numbersOf x) g h) (numbersOf x .depth) ≡ answerOf g h x
     go (found guest o n) = refl
     go (found house o n) = refl
     go (refused guest r) = refl

@@ -41,15 +41,15 @@ numberOf house = 2
 
 -- a finding in numbers: no error, the list, and the value's bytes there
 abbrev pub foundIn : ℕ → ℕ → ℕ → Located
-foundIn list offset size = record { error = 0; list = list; offset = offset; length = size }
+foundIn list offset size = record { error = 0; list = list; offset = offset; length = size; depth = 0 }
 
--- "each .. named with the place"
+-- "each .. named with the place"; "the settings lookup .. pass it on": the depth in that list
 abbrev pub refusedIn : ℕ → Refusal → Located
-refusedIn list r = record { error = r .number; list = list; offset = r .offset; length = 0 }
+refusedIn list r = record { error = r .number; list = list; offset = r .offset; length = 0; depth = r .depth }
 
--- 33 names no list
+-- 33 names no list, no place and no depth
 abbrev pub missingKey : Located
-missingKey = record { error = 33; list = 0; offset = 0; length = 0 }
+missingKey = record { error = 33; list = 0; offset = 0; length = 0; depth = 0 }
 
 abbrev pub numbersOf : Finding → Located
 numbersOf (found o offset size) = foundIn (numberOf o) offset size
@@ -62,9 +62,10 @@ pub record Answer : Type 0 where
   pub list : ℕ
   pub offset : ℕ
   pub part : List ℕ
+  pub depth : ℕ
 
-abbrev pub answer : ℕ → ℕ → ℕ → List ℕ → Answer
-answer error list offset part = record { error = error; list = list; offset = offset; part = part }
+abbrev pub answer : ℕ → ℕ → ℕ → List ℕ → ℕ → Answer
+answer error list offset part depth = record { error = error; list = list; offset = offset; part = part; depth = depth }
 
 -- the area of the one list or the other
 abbrev pub areaOf : Owner → List ℕ → List ℕ → List ℕ
@@ -78,4 +79,4 @@ givenBack g h (refused o r) = []
 givenBack g h missing = []
 
 abbrev pub answerOf : List ℕ → List ℕ → Finding → Answer
-answerOf g h f = answer (numbersOf f .error) (numbersOf f .list) (numbersOf f .offset) (givenBack g h f)
+answerOf g h f = answer (numbersOf f .error) (numbersOf f .list) (numbersOf f .offset) (givenBack g h f) (numbersOf f .depth)

@@ -15,12 +15,13 @@ ghost use Rattle.setting.specs.Lookup.{choice, lookup, foundIn, refusedI
 ghost use Rattle.setting.specs.Steps.{searchArea, Within, partOf, LookedUp};
 
 // Where the value of a key stands: the number of the refusal, 0 for none, the list, and there the offset and the length of
-// the value or the offset of the fault.
+// the value or the offset of the fault and how many lists are open at it.
 pub struct Located {
     pub error: u8,
     pub list: u8,
     pub offset: usize,
     pub length: usize,
+    pub depth: u8,
 }
 
 // The answer with the bytes of the value: the same numbers, with that part of the list in the place of the length.
@@ -29,6 +30,7 @@ pub struct Setting<'g> {
     pub list: u8,
     pub offset: usize,
     pub part: &'g [u8],
+    pub depth: u8,
 }
 
 // The names of the lists in an answer, 0 for neither.
@@ -44,6 +46,7 @@ fn refused(list: u8, r: Refusal) -> Located
         list,
         offset: r.offset,
         length: 0,
+        depth: r.depth,
     }
 }
 
@@ -55,6 +58,7 @@ fn found(list: u8, at: Span) -> Located
         list,
         offset: at.offset,
         length: at.length,
+        depth: 0,
     }
 }
 
@@ -67,6 +71,7 @@ fn missing() -> Located
         list: 0,
         offset: 0,
         length: 0,
+        depth: 0,
     }
 }
 
@@ -143,7 +148,7 @@ fn part<'g>(guest: &'g [u8], house: &'g [u8], at: Located) -> &'g [u8]
 // hand: the borrow checker covers no function that makes a struct with a reference in it. Where `part` is called, the house's
 // list is taken at the shorter lifetime 'g.
 pub fn find<'g, 'h: 'g>(guest: &'g [u8], house: &'h [u8], key: &[u8]) -> Setting<'g>
-    ensures { λ r. ⌜ answer (r .error) (r .list) (r .offset) (now (r .part))
+    ensures { λ r. ⌜ answer (r .error) (r .list) (r .offset) (now (r .part)) (r .depth)
         ≡ answerOf (now (guest .entry)) (now (house .entry)) (lookup (now (guest .entry)) (now (house .entry)) (now (key .entry))) ⌝ }
 {
     let at = look_up(guest, house, key);
@@ -153,5 +158,6 @@ pub fn find<'g, 'h: 'g>(guest: &'g [u8], house: &'h [u8], key: &[u8]) -> Setting
         list: at.list,
         offset: at.offset,
         part,
+        depth: at.depth,
     }
 }

@@ -8,7 +8,7 @@ use Rattle.wire.specs.Equal.{same}
 use Rattle.list.specs.Limits.{rowRoom, storeRoom}
 use Rattle.list.specs.Kind.{kindOf}
 use Rattle.list.specs.Bytes.{codeFor}
-use Rattle.list.specs.Parse.{itemFault, stringAt, blobAt, valueAt, typedAt, isListCode, codedAt, mixedAt, listAt, parse}
+use Rattle.list.specs.Parse.{itemFault, stringAt, blobAt, valueAt, typedAt, isListCode, codedAt, mixedAt, bodyAt, listAt, parse}
 use Rattle.list.specs.Refusal.{refusal}
 use Rattle.list.specs.RowBytes.{unpacked}
 use Rattle.list.proofs.Cases.{primeBytes, twoListBytes}
@@ -34,5 +34,5 @@ pub cases :
     ≡ accepted 40 9 0 ∷ refused (refusal 20 0) ∷ accepted 72 10 16 ∷ ended ∷ ended ∷ [])
     × (answers (series (run ++ (0 ∷ 0 ∷ [])) 0 (enough ∷ enough ∷ enough ∷ []))
     ≡ accepted 40 9 0 ∷ accepted 72 10 16 ∷ refused (refusal 21 112) ∷ [])
-unfolding hasZero same kindOf codeFor itemFault stringAt blobAt valueAt typedAt isListCode codedAt mixedAt listAt parse unpacked roomy decodingOf stepOf series
+unfolding hasZero same kindOf codeFor itemFault stringAt blobAt valueAt typedAt isListCode codedAt mixedAt bodyAt listAt parse unpacked roomy decodingOf stepOf series
 cases = (refl, refl)

@@ -13,7 +13,9 @@ use Rattle.list.specs.Rows.{listRows, listStore}
 use Rattle.list.specs.Legal.{Legal}
 use Rattle.list.specs.Refusal.{Refusal, moved}
 use Rattle.list.specs.Parse.{bad, parse}
+use Rattle.list.specs.Open.{depthAt}
 use Rattle.list.proofs.Same.{same-exactly}
+use Rattle.list.proofs.Depth.{depth-open}
 use Rattle.list_decode.specs.Decode as decode
 use Rattle.list_decode.specs.Decode.{outcome, roomy, decodingOf}
 use Rattle.stream.specs.Step as step
@@ -37,6 +39,8 @@ pub record Fault (rest : List ℕ) : Type 0 where
   pub found : parse listLimit rest ≡ bad refusal
   pub alone : (rows store : List ℕ) → roomy rows store ≡ true → decodingOf rest rows store ≡ outcome (decode.refused refusal) rows store
   pub behindRun : (size : ℕ) → behind size rest ≡ step.refused (moved size refusal)
+  -- "the number of lists open at the fault", by those bytes alone: every list of the run is closed
+  pub depth : refusal .depth ≡ depthAt rest (refusal .number) (refusal .offset)
 
 pub record Demand3 : Type 0 where
   -- "Two different runs of lists never have equal bytes": trees hold the elements, their nesting and kinds, numbers, float bits and bytes
@@ -52,7 +56,7 @@ pub record Demand3 : Type 0 where
   pub whole : (run : List Elements) (rest : List ℕ) → LegalRun run → Bytes rest → StartsNone rest
       → (lendings : List Lending) → series (runBytes run ++ rest) 0 lendings ≡ expected run rest lendings
   -- "The refusal then has the number that those bytes get alone, and it names the place of the fault: its place in them plus the length of
-  -- the run."
+  -- the run."; "Each list-reading refusal is to carry the number of lists open at the fault"
   pub fault : (b : ℕ) (rest : List ℕ) → Bytes (b ∷ rest) → StartsNone (b ∷ rest) → Fault (b ∷ rest)
   -- "Read a run from the front, whatever bytes follow it."
   pub follows : (run : List Elements) (rest : List ℕ) → LegalRun run → Bytes rest → Followed run rest
@@ -86,6 +90,7 @@ fault-alone b rest h n =
       found = w .1;
       alone = λ rows store r. rw (r, w .1);
       behindRun = λ size. rw (w .1);
+      depth = depth-open listLimit (b ∷ rest) (w .0) (w .1);
     }
 
 pub lists-first : (run : List Elements) (rest : List ℕ) → LegalRun run → Bytes rest → Followed run rest

@@ -1,13 +1,13 @@
 -- One step by its cases, in 01's order, and a series by its first step.
 use Prim.Native.Nat.{ℕ, _+_, _-_, _*_, _≤_, _<_}
 use mathlib.Core.Bool.{Bool, true, false, cond, _&&_}
-use mathlib.Core.Path.{_≡_, refl, sym, ap, _∙_}
+use mathlib.Core.Path.{_≡_, refl, sym, ap, subst, _∙_}
 use mathlib.Core.List.{List, _∷_}
 use native.Mathlib.Omega.{arith}
-use lib.Dec.{leb}
+use lib.Dec.{eqb, ltb, leb}
 use lib.ListN.{length, take, drop, length-drop}
 use lib.Seq.{take-all}
-use borrow.Author.Tests.{eq-eqb, ne-eqb, lt-ltb, le-ltb}
+use borrow.Author.Tests.{eq-eqb, ne-eqb, eqb-true, eqb-false, lt-ltb, le-ltb, ltb-true, ltb-false}
 use Rattle.wire.specs.Area.{over}
 use Rattle.list.specs.Limits.{listLimit, rowRoom, storeRoom}
 use Rattle.list.specs.Tree.{Elements}
@@ -87,6 +87,31 @@ module _ (s : List ℕ) (offset : ℕ) (rows store : List ℕ) where
       -- a refusal's offset is not past the end
       pub read-within : offset + faultOf (readingOf x) ≤ length s
       read-within = omega (arith, ap (λ (z : Outcome Reading). faultOf (z .answer)) read, fault-within (drop offset s) rows store, length-drop offset s)
+
+-- a step by cases: what holds of each of its outcomes holds of it
+pub step-cases : (P : Outcome Found → Type 0) (s : List ℕ) (offset : ℕ) (rows store : List ℕ)
+    → P (outcome (refused (refusal 20 0)) rows store)
+    → (length s < offset → P (outcome (refused (refusal 21 offset)) rows store))
+    → (offset ≡ length s → P (outcome ended rows store))
+    → ((es : Elements) (n : ℕ) → parse listLimit (drop offset s) ≡ good es n
+    → P (outcome (accepted n (rowCount es) (length (listStore es))) (over (packed (listRows es)) rows) (over (listStore es) store)))
+    → ((f : Refusal) → parse listLimit (drop offset s) ≡ bad f → P (outcome (refused (moved offset f)) rows store))
+    → P (stepOf s offset rows store)
+step-cases P s offset rows store short past ends found fault = room (roomy rows store) refl
+  where
+    inside : roomy rows store ≡ true → offset < length s → (p : Parsed Elements) → parse listLimit (drop offset s) ≡ p → P (stepOf s offset rows store)
+    inside r h (good es n) e = subst P (sym (step-found s offset rows store r h es n e)) (found es n e)
+    inside r h (bad f) e = subst P (sym (step-fault s offset rows store r h f e)) (fault f e)
+
+    order : roomy rows store ≡ true → (a b : Bool) → ltb (length s) offset ≡ a → eqb offset (length s) ≡ b → P (stepOf s offset rows store)
+    order r true b k d = let h = ltb-true (length s) offset k in subst P (sym (step-past s offset rows store r h)) (past h)
+    order r false true k d = let e = eqb-true offset (length s) d in subst P (sym (step-end s offset rows store r e)) (ends e)
+    order r false false k d =
+        inside r (omega (arith, ltb-false (length s) offset k, eqb-false offset (length s) d)) (parse listLimit (drop offset s)) refl
+
+    room : (b : Bool) → roomy rows store ≡ b → P (stepOf s offset rows store)
+    room true r = order r (ltb (length s) offset) (eqb offset (length s)) refl refl
+    room false r = subst P (sym (step-short s offset rows store r)) short
 
 -- the first step's outcome, and the series from the offset that it leads to
 pub series-next : (s : List ℕ) (offset : ℕ) (l : Lending) (ls : List Lending) (o : Outcome Found)

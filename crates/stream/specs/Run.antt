@@ -46,7 +46,7 @@ handedOver es l =
     outcome (accepted (length (listBytes es)) (rowCount es) (length (listStore es)))
     (over (packed (listRows es)) (l .rows)) (over (listStore es) (l .store))
 
--- "list reading's refusal of those bytes alone, the run's bytes added to its place"; bytes that start with no legal list are never `good`
+-- "list reading's refusal of those bytes alone, the run's bytes added to its place", its depth as it is; bytes that start with no legal list are never `good`
 abbrev pub refusedBehind : ℕ → Parsed Elements → Found
 refusedBehind size (bad r) = refused (moved size r)
 refusedBehind size (good es consumed) = ended

@@ -28,10 +28,15 @@ pub fn next(bytes: &[u8], offset: usize, rows: &mut [u8], store: &mut [u8]) -> S
         return Step::Refused(Refusal {
             error: 20,
             offset: 0,
+            depth: 0,
         });
     }
     if bytes.len() < offset {
-        return Step::Refused(Refusal { error: 21, offset });
+        return Step::Refused(Refusal {
+            error: 21,
+            offset,
+            depth: 0,
+        });
     }
     if offset == bytes.len() {
         return Step::End;

@@ -40,6 +40,7 @@ mod results {
         pub rows: u64,
         pub offset: u64,
         pub stored: u64,
+        pub depth: u64,
     }
 
     /// `cinder_write_result`.
@@ -67,6 +68,7 @@ mod results {
         pub list: u64,
         pub offset: u64,
         pub length: u64,
+        pub depth: u64,
     }
 
     /// `cinder_line_result`.

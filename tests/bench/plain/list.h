@@ -52,9 +52,9 @@ static inline bool is_list_code(uint32_t code)
     return code == LIST || (code > LIST && is_kind(code - LIST));
 }
 
-static inline cinder_list_result refused(uint64_t error, uint64_t offset)
+static inline cinder_list_result refused(uint64_t error, uint64_t offset, uint64_t depth)
 {
-    return (cinder_list_result){.error = error, .offset = offset};
+    return (cinder_list_result){.error = error, .offset = offset, .depth = depth};
 }
 
 /*
@@ -70,7 +70,7 @@ static inline cinder_list_result list_decode_by(list_reader *read,
                                                 uint8_t *store, size_t store_len)
 {
     if (rows_len < CINDER_ROWS_ROOM || store_len < CINDER_STORE_ROOM)
-        return refused(AREA_TOO_SMALL, 0);
+        return refused(AREA_TOO_SMALL, 0, 0);
     return read(bytes, bytes_len, 0, rows, store);
 }
 
@@ -81,9 +81,9 @@ static inline cinder_list_result stream_next_by(list_reader *read,
                                                 uint8_t *store, size_t store_len)
 {
     if (rows_len < CINDER_ROWS_ROOM || store_len < CINDER_STORE_ROOM)
-        return refused(AREA_TOO_SMALL, 0);
+        return refused(AREA_TOO_SMALL, 0, 0);
     if (offset > bytes_len)
-        return refused(BYTES_END, offset);
+        return refused(BYTES_END, offset, 0);
     if (offset == bytes_len)
         return (cinder_list_result){0};
     return read(bytes, bytes_len, (size_t)offset, rows, store);

@@ -4,11 +4,13 @@
  */
 #include "list.h"
 
-/* The bytes, how far they were judged, and the first fault once one is found. */
+/* The bytes, how far they were judged, the lists open there, and the first fault once one is
+ * found. */
 struct judge {
     const uint8_t *bytes;
     size_t length;
     size_t at;
+    unsigned open;
     unsigned error;
     size_t fault;
 };
@@ -68,10 +70,10 @@ static bool judge_value(struct judge *judge, uint32_t kind)
     }
 }
 
-static bool judge_list(struct judge *judge, unsigned depth);
+static bool judge_list(struct judge *judge);
 
 /* An element behind its code; `seen` becomes the code that the elements have in common. */
-static bool judge_element(struct judge *judge, unsigned depth, uint32_t *seen)
+static bool judge_element(struct judge *judge, uint32_t *seen)
 {
     if (!have(judge, WORD))
         return false;
@@ -84,17 +86,18 @@ static bool judge_element(struct judge *judge, unsigned depth, uint32_t *seen)
     if (!is_list_code(code))
         return refuse(judge, UNKNOWN_CODE, judge->at);
     *seen = LIST;
-    return judge_list(judge, depth + 1);
+    return judge_list(judge);
 }
 
-/* The list whose code was seen to be a list's. */
-static bool judge_list(struct judge *judge, unsigned depth)
+/* The list whose code was seen to be a list's. A fault leaves it open. */
+static bool judge_list(struct judge *judge)
 {
     size_t front = judge->at;
-    if (depth > DEPTH_LIMIT)
+    if (judge->open == DEPTH_LIMIT)
         return refuse(judge, TOO_DEEP, front);
     uint32_t code = word_at(judge->bytes + front);
     judge->at += WORD;
+    judge->open++;
     if (!have(judge, WORD))
         return false;
     int32_t count = signed_at(judge->bytes + judge->at);
@@ -103,12 +106,13 @@ static bool judge_list(struct judge *judge, unsigned depth)
     judge->at += WORD;
     uint32_t seen = 0;
     for (int32_t number = 0; number < count; number++) {
-        if (!(code == LIST ? judge_element(judge, depth, &seen) : judge_value(judge, code - LIST)))
+        if (!(code == LIST ? judge_element(judge, &seen) : judge_value(judge, code - LIST)))
             return false;
     }
     bool one_kind = seen != 0 && seen != LIST;
     if (code == LIST ? one_kind : count == 0)
         return refuse(judge, WRONG_LIST_CODE, front);
+    judge->open--;
     return true;
 }
 
@@ -173,11 +177,11 @@ static cinder_list_result decode_at(const uint8_t *bytes, size_t bytes_len, size
 {
     struct judge judge = {.bytes = bytes + offset, .length = bytes_len - offset};
     if (!have(&judge, WORD))
-        return refused(judge.error, offset);
+        return refused(judge.error, offset, 0);
     if (!is_list_code(word_at(judge.bytes)))
-        return refused(NOT_A_LIST, offset);
-    if (!judge_list(&judge, 1))
-        return refused(judge.error, offset + judge.fault);
+        return refused(NOT_A_LIST, offset, 0);
+    if (!judge_list(&judge))
+        return refused(judge.error, offset + judge.fault, judge.open);
     struct filler filler = {.at = judge.bytes, .row = rows, .store = store};
     fill_list(&filler);
     return (cinder_list_result){

@@ -5,26 +5,33 @@
  */
 #include "list.h"
 
-/* The bytes as far as a list may reach, and the first fault once one is found. */
+/* The bytes as far as a list may reach, and the first fault once one is found, with the
+ * number of lists open there. */
 struct judge {
     const uint8_t *front, *end;
     const uint8_t *fault;
-    unsigned error;
+    unsigned error, depth;
 };
 
-/* Every part of the judge answers where the next item begins, or NULL after a fault. */
-static const uint8_t *refuse(struct judge *judge, unsigned error, const uint8_t *at)
+/*
+ * Every part of the judge answers where the next item begins, or NULL after a fault. Each is
+ * told the depth, which is written where there is a fault and nowhere else.
+ */
+static const uint8_t *refuse(struct judge *judge, unsigned error, const uint8_t *at,
+                             unsigned depth)
 {
     judge->error = error;
     judge->fault = at;
+    judge->depth = depth;
     return NULL;
 }
 
 /* The item at `at` does not fit: the limit comes before the end of the bytes. */
-static const uint8_t *refuse_cut(struct judge *judge, const uint8_t *at, size_t size)
+static const uint8_t *refuse_cut(struct judge *judge, const uint8_t *at, size_t size,
+                                 unsigned depth)
 {
     size_t end = (size_t)(at - judge->front) + size;
-    return refuse(judge, end > LIST_LIMIT ? BEYOND_LIMIT : BYTES_END, at);
+    return refuse(judge, end > LIST_LIMIT ? BEYOND_LIMIT : BYTES_END, at, depth);
 }
 
 static inline bool fits(const struct judge *judge, const uint8_t *at, size_t size)
@@ -32,49 +39,50 @@ static inline bool fits(const struct judge *judge, const uint8_t *at, size_t siz
     return (size_t)(judge->end - at) >= size;
 }
 
-static inline const uint8_t *judge_item(struct judge *judge, const uint8_t *at, size_t size)
+static inline const uint8_t *judge_item(struct judge *judge, const uint8_t *at, size_t size,
+                                        unsigned depth)
 {
-    return fits(judge, at, size) ? at + size : refuse_cut(judge, at, size);
+    return fits(judge, at, size) ? at + size : refuse_cut(judge, at, size, depth);
 }
 
 /* So many elements of one size. */
 static inline const uint8_t *judge_fixed(struct judge *judge, const uint8_t *at,
-                                         size_t count, size_t size)
+                                         size_t count, size_t size, unsigned depth)
 {
     size_t fitting = (size_t)(judge->end - at) / size;
     if (count > fitting)
-        return refuse_cut(judge, at + fitting * size, size);
+        return refuse_cut(judge, at + fitting * size, size, depth);
     return at + count * size;
 }
 
-static inline const uint8_t *judge_string(struct judge *judge, const uint8_t *at)
+static inline const uint8_t *judge_string(struct judge *judge, const uint8_t *at, unsigned depth)
 {
     if (!fits(judge, at, WORD))
-        return refuse_cut(judge, at, WORD);
+        return refuse_cut(judge, at, WORD, depth);
     int32_t length = signed_at(at);
     if (length < 1)
-        return refuse(judge, BAD_STRING_OR_BLOB, at);
+        return refuse(judge, BAD_STRING_OR_BLOB, at, depth);
     at += WORD;
     if (!fits(judge, at, (size_t)length))
-        return refuse_cut(judge, at, (size_t)length);
+        return refuse_cut(judge, at, (size_t)length, depth);
     if (memchr(at, 0, (size_t)length) != at + length - 1)
-        return refuse(judge, BAD_STRING_OR_BLOB, at);
+        return refuse(judge, BAD_STRING_OR_BLOB, at, depth);
     return at + length;
 }
 
-static inline const uint8_t *judge_blob(struct judge *judge, const uint8_t *at)
+static inline const uint8_t *judge_blob(struct judge *judge, const uint8_t *at, unsigned depth)
 {
     if (!fits(judge, at, WORD))
-        return refuse_cut(judge, at, WORD);
+        return refuse_cut(judge, at, WORD, depth);
     int32_t length = signed_at(at);
     if (length < 0)
-        return refuse(judge, BAD_STRING_OR_BLOB, at);
-    return judge_item(judge, at + WORD, (size_t)length);
+        return refuse(judge, BAD_STRING_OR_BLOB, at, depth);
+    return judge_item(judge, at + WORD, (size_t)length, depth);
 }
 
 static const uint8_t *judge_list(struct judge *judge, const uint8_t *code_at, unsigned depth);
 
-/* The elements of a 256 list, each behind its code. */
+/* The elements of a 256 list of this depth, each behind its code. */
 static const uint8_t *judge_untyped(struct judge *judge, const uint8_t *at, int32_t count,
                                     const uint8_t *list_at, unsigned depth)
 {
@@ -82,7 +90,7 @@ static const uint8_t *judge_untyped(struct judge *judge, const uint8_t *at, int3
     bool one_kind = count > 0;
     for (int32_t number = 0; number < count; number++) {
         if (!fits(judge, at, WORD))
-            return refuse_cut(judge, at, WORD);
+            return refuse_cut(judge, at, WORD, depth);
         uint32_t code = word_at(at);
         if (number == 0)
             first = code;
@@ -90,22 +98,22 @@ static const uint8_t *judge_untyped(struct judge *judge, const uint8_t *at, int3
         switch (code) {
         case INT:
         case VOCAB:
-            at = judge_item(judge, at + WORD, WORD);
+            at = judge_item(judge, at + WORD, WORD, depth);
             break;
         case FLOAT:
-            at = judge_item(judge, at + WORD, 2 * WORD);
+            at = judge_item(judge, at + WORD, 2 * WORD, depth);
             break;
         case STRING:
-            at = judge_string(judge, at + WORD);
+            at = judge_string(judge, at + WORD, depth);
             break;
         case BLOB:
-            at = judge_blob(judge, at + WORD);
+            at = judge_blob(judge, at + WORD, depth);
             break;
         default:
             if (!is_list_code(code))
-                return refuse(judge, UNKNOWN_CODE, at);
+                return refuse(judge, UNKNOWN_CODE, at, depth);
             if (depth == DEPTH_LIMIT)
-                return refuse(judge, TOO_DEEP, at);
+                return refuse(judge, TOO_DEEP, at, depth);
             one_kind = false;
             at = judge_list(judge, at, depth + 1);
         }
@@ -113,47 +121,47 @@ static const uint8_t *judge_untyped(struct judge *judge, const uint8_t *at, int3
             return NULL;
     }
     if (one_kind)
-        return refuse(judge, WRONG_LIST_CODE, list_at);
+        return refuse(judge, WRONG_LIST_CODE, list_at, depth);
     return at;
 }
 
-/* The list whose code stands at `code_at` and is a list code. */
+/* The list of this depth whose code stands at `code_at` and is a list code. */
 static const uint8_t *judge_list(struct judge *judge, const uint8_t *code_at, unsigned depth)
 {
     uint32_t code = word_at(code_at);
     const uint8_t *at = code_at + WORD;
     if (!fits(judge, at, WORD))
-        return refuse_cut(judge, at, WORD);
+        return refuse_cut(judge, at, WORD, depth);
     int32_t count = signed_at(at);
     if (count < 0)
-        return refuse(judge, COUNT_BELOW_0, at);
+        return refuse(judge, COUNT_BELOW_0, at, depth);
     at += WORD;
     if (code == LIST)
         return judge_untyped(judge, at, count, code_at, depth);
     if (count == 0)
-        return refuse(judge, WRONG_LIST_CODE, code_at);
+        return refuse(judge, WRONG_LIST_CODE, code_at, depth);
     switch (code - LIST) {
     case FLOAT:
-        return judge_fixed(judge, at, (size_t)count, 2 * WORD);
+        return judge_fixed(judge, at, (size_t)count, 2 * WORD, depth);
     case STRING:
         while (count-- > 0 && at != NULL)
-            at = judge_string(judge, at);
+            at = judge_string(judge, at, depth);
         return at;
     case BLOB:
         while (count-- > 0 && at != NULL)
-            at = judge_blob(judge, at);
+            at = judge_blob(judge, at, depth);
         return at;
     default:
-        return judge_fixed(judge, at, (size_t)count, WORD);
+        return judge_fixed(judge, at, (size_t)count, WORD, depth);
     }
 }
 
 static const uint8_t *judge_outermost(struct judge *judge)
 {
     if (!fits(judge, judge->front, WORD))
-        return refuse_cut(judge, judge->front, WORD);
+        return refuse_cut(judge, judge->front, WORD, 0);
     if (!is_list_code(word_at(judge->front)))
-        return refuse(judge, NOT_A_LIST, judge->front);
+        return refuse(judge, NOT_A_LIST, judge->front, 0);
     return judge_list(judge, judge->front, 1);
 }
 
@@ -230,7 +238,7 @@ static inline cinder_list_result decode_at(const uint8_t *bytes, size_t bytes_le
     struct judge judge = {.front = bytes + offset, .end = bytes + offset + reach};
     const uint8_t *end = judge_outermost(&judge);
     if (end == NULL)
-        return refused(judge.error, (uint64_t)(judge.fault - bytes));
+        return refused(judge.error, (uint64_t)(judge.fault - bytes), judge.depth);
     struct filled filled = fill(judge.front, end, rows, store);
     return (cinder_list_result){
         .consumed = (uint64_t)(end - judge.front),

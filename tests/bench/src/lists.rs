@@ -32,6 +32,11 @@ pub fn all() -> Vec<(&'static str, Vec<u8>)> {
             bytes[4088..4092].copy_from_slice(&7_u32.to_le_bytes());
             bytes
         }),
+        ("list-nested-cut", {
+            let mut bytes = image(&deep);
+            bytes.pop();
+            bytes
+        }),
     ]
 }
 

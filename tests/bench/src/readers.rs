@@ -37,7 +37,7 @@ enum Call {
 }
 
 /// The numbers of a call's answer, and what it left in both buffers.
-type Outcome = ([u64; 5], Vec<u8>, Vec<u8>);
+type Outcome = ([u64; 6], Vec<u8>, Vec<u8>);
 
 impl Case for Reading {
     fn name(&self) -> &str {
@@ -161,7 +161,7 @@ fn steps(mut next: impl FnMut(u64) -> u64) {
     }
 }
 
-/// Error, consumed, rows, offset and stored of one call; a packet has only the first two.
+/// Error, consumed, rows, offset, stored and depth of one call; a packet has only the first two.
 fn answer(
     call: Call,
     side: Side,
@@ -169,13 +169,13 @@ fn answer(
     offset: u64,
     first: &mut [u8],
     store: &mut [u8],
-) -> [u64; 5] {
+) -> [u64; 6] {
     let _ = (offset, &store);
     match (call, side) {
         #[cfg(feature = "packet")]
         (Call::Packet, Side::Reader) => match packet::decode(bytes, first) {
-            Ok(consumed) => [0, consumed as u64, 0, 0, 0],
-            Err(error) => [error.number(), 0, 0, 0, 0],
+            Ok(consumed) => [0, consumed as u64, 0, 0, 0, 0],
+            Err(error) => [error.number(), 0, 0, 0, 0, 0],
         },
         #[cfg(feature = "packet")]
         (Call::Packet, Side::Plain) => of_packet(plain::packet_decode(bytes, first)),
@@ -210,13 +210,14 @@ fn no_tuned_packet() -> ! {
 }
 
 #[cfg(feature = "packet")]
-fn of_packet(result: archive::PacketResult) -> [u64; 5] {
-    [result.error, result.consumed, 0, 0, 0]
+fn of_packet(result: archive::PacketResult) -> [u64; 6] {
+    [result.error, result.consumed, 0, 0, 0, 0]
 }
 
 #[cfg(any(feature = "list", feature = "stream"))]
-fn of_list(result: archive::ListResult) -> [u64; 5] {
-    [result.error, result.consumed, result.rows, result.offset, result.stored]
+fn of_list(result: archive::ListResult) -> [u64; 6] {
+    let archive::ListResult { error, consumed, rows, offset, stored, depth } = result;
+    [error, consumed, rows, offset, stored, depth]
 }
 
 /// Every case whose call is compiled in.

@@ -1,7 +1,7 @@
 //! The settings' cases: one key in two lists.
 
 use crate::cases::{repeat, Case, Side};
-use archive::setting_find;
+use archive::{setting_find, SettingResult};
 use second_reader::generate::list::{image, Element};
 use second_reader::generate::setting::entry;
 use second_reader::list::LIST_LIMIT;
@@ -46,9 +46,8 @@ impl Case for SettingCase {
 
     fn sides_agree(&mut self) -> bool {
         let SettingCase { guest, house, key, .. } = self;
-        let result = setting_find(guest, house, key);
-        numbers(find(guest, house, key))
-            == [result.error, result.list, result.offset, result.length]
+        let SettingResult { error, list, offset, length, depth } = setting_find(guest, house, key);
+        numbers(find(guest, house, key)) == [error, list, offset, length, depth]
     }
 }
 

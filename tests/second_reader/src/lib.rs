@@ -5,11 +5,12 @@
 //! error leaves them as they were, but for the state of a line. No call allocates, apart from those that answer
 //! a program's output as text. The module `definition` says the same once more in the
 //! paper's own words, with no regard to speed. `generate` makes inputs for the comparison;
-//! `widths`, `lookups` and `scraps` tell what they show.
+//! `widths`, `lookups`, `depths` and `scraps` tell what they show.
 
 pub mod calls;
 pub mod catalogue;
 pub mod definition;
+pub mod depths;
 pub mod error;
 pub mod generate;
 pub mod hub;

@@ -72,11 +72,21 @@ impl Form {
     }
 }
 
-/// An error with the offset of the item at fault.
+/// An error with the offset of the item at fault and the number of lists open there.
 #[derive(Clone, Copy, PartialEq, Eq, Debug)]
 pub struct ListError {
     pub error: Error,
     pub offset: u64,
+    /// A list is open from its count to the end of its last element. For 24 the list at fault
+    /// counts too.
+    pub depth: u64,
+}
+
+impl ListError {
+    /// An error where no list is open.
+    pub fn outside(error: Error, offset: u64) -> ListError {
+        ListError { error, offset, depth: 0 }
+    }
 }
 
 /// The sizes of a list that was read.
@@ -88,13 +98,13 @@ pub struct Decoded {
     pub stored: usize,
 }
 
-/// Error, bytes consumed, rows, offset and store bytes, as the C call answers them.
-pub fn numbers(answer: Result<Decoded, ListError>) -> [u64; 5] {
+/// Error, bytes consumed, rows, offset, store bytes and depth, as the C call answers them.
+pub fn numbers(answer: Result<Decoded, ListError>) -> [u64; 6] {
     match answer {
         Ok(Decoded { consumed, rows, stored }) => {
-            [0, consumed as u64, rows as u64, 0, stored as u64]
+            [0, consumed as u64, rows as u64, 0, stored as u64, 0]
         }
-        Err(ListError { error, offset }) => [error.number(), 0, 0, offset, 0],
+        Err(ListError { error, offset, depth }) => [error.number(), 0, 0, offset, 0, depth],
     }
 }
 
@@ -102,7 +112,7 @@ pub fn numbers(answer: Result<Decoded, ListError>) -> [u64; 5] {
 /// `rows` and its string and blob bytes to the front of `store`.
 pub fn decode(bytes: &[u8], rows: &mut [u8], store: &mut [u8]) -> Result<Decoded, ListError> {
     if rows.len() < ROWS_ROOM || store.len() < STORE_ROOM {
-        return Err(ListError { error: Error::BufferTooSmall, offset: 0 });
+        return Err(ListError::outside(Error::BufferTooSmall, 0));
     }
     let consumed = size(bytes)?;
     let mut fill = Fill { bytes, at: 0, rows, filled: 0, store, used: 0 };
@@ -115,12 +125,17 @@ pub fn decode(bytes: &[u8], rows: &mut [u8], store: &mut [u8]) -> Result<Decoded
 #[inline]
 pub(crate) fn size(bytes: &[u8]) -> Result<usize, ListError> {
     let bytes = &bytes[..bytes.len().min(LIST_LIMIT)];
-    let mut judge = Judge { bytes, at: 0 };
-    judge.outermost().map_err(|Fault(error, offset)| ListError { error, offset: offset.into() })?;
-    Ok(judge.at)
+    let mut judge = Judge { bytes, at: 0, open: 0 };
+    match judge.outermost() {
+        Ok(()) => Ok(judge.at),
+        Err(Fault(error, offset)) => {
+            Err(ListError { error, offset: offset.into(), depth: judge.open as u64 })
+        }
+    }
 }
 
-/// An error and its offset, which is at most the limit; small enough for a register.
+/// An error and its offset, which is at most the limit; small enough for a register. Its depth
+/// is the number of lists that the judge leaves open.
 struct Fault(Error, u16);
 
 fn fault(error: Error, offset: usize) -> Fault {
@@ -136,6 +151,8 @@ struct Judge<'a> {
     /// The bytes given, as far as a list may reach.
     bytes: &'a [u8],
     at: usize,
+    /// How many lists are open here.
+    open: usize,
 }
 
 impl Judge<'_> {
@@ -160,11 +177,12 @@ impl Judge<'_> {
     fn outermost(&mut self) -> Result<(), Fault> {
         let code = self.word()?;
         let form = Form::of_code(code).ok_or(fault(Error::NotAListCode, 0))?;
-        self.list(form, 0, 1)
+        self.list(form, 0)
     }
 
-    /// A list from its count on; its code stands at `code_at`.
-    fn list(&mut self, form: Form, code_at: usize, depth: usize) -> Result<(), Fault> {
+    /// A list from its count on, where it is open, to its end; its code stands at `code_at`.
+    fn list(&mut self, form: Form, code_at: usize) -> Result<(), Fault> {
+        self.open += 1;
         let count_at = self.at;
         let count = self.word()?;
         if (count as i32) < 0 {
@@ -177,8 +195,10 @@ impl Judge<'_> {
             Form::Typed(Kind::Float) => self.fixed(count, 2 * WORD),
             Form::Typed(Kind::String) => (0..count).try_for_each(|_| self.string()),
             Form::Typed(Kind::Blob) => (0..count).try_for_each(|_| self.blob()),
-            Form::Untyped => self.untyped(count, code_at, depth),
-        }
+            Form::Untyped => self.untyped(count, code_at),
+        }?;
+        self.open -= 1;
+        Ok(())
     }
 
     /// Elements of one size: all fit, or the first that doesn't is at fault.
@@ -191,7 +211,7 @@ impl Judge<'_> {
         Ok(())
     }
 
-    fn untyped(&mut self, count: usize, code_at: usize, depth: usize) -> Result<(), Fault> {
+    fn untyped(&mut self, count: usize, code_at: usize) -> Result<(), Fault> {
         let mut one_kind = count > 0;
         let mut first = None;
         for _ in 0..count {
@@ -200,7 +220,7 @@ impl Judge<'_> {
             let kind = Kind::of_code(code);
             match kind {
                 Some(kind) => self.element(kind)?,
-                None => self.nested(code, element_at, depth)?,
+                None => self.nested(code, element_at)?,
             }
             one_kind &= kind.is_some() && *first.get_or_insert(code) == code;
         }
@@ -211,12 +231,12 @@ impl Judge<'_> {
     }
 
     /// An element whose code, at `code_at`, is none of the kinds': a list, if any.
-    fn nested(&mut self, code: u32, code_at: usize, depth: usize) -> Result<(), Fault> {
+    fn nested(&mut self, code: u32, code_at: usize) -> Result<(), Fault> {
         let form = Form::of_code(code).ok_or(fault(Error::ElementCodeUnknown, code_at))?;
-        if depth == DEPTH_LIMIT {
+        if self.open == DEPTH_LIMIT {
             return Err(fault(Error::TooDeep, code_at));
         }
-        self.list(form, code_at, depth + 1)
+        self.list(form, code_at)
     }
 
     #[inline]

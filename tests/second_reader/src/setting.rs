@@ -33,14 +33,14 @@ pub enum Refusal {
     KeyInNeither,
 }
 
-/// Error, list, offset and length, as the C call answers them.
-pub fn numbers(answer: Result<Found, Refusal>) -> [u64; 4] {
+/// Error, list, offset, length and depth, as the C call answers them.
+pub fn numbers(answer: Result<Found, Refusal>) -> [u64; 5] {
     match answer {
-        Ok(Found { owner, offset, length }) => [0, owner as u64, offset as u64, length as u64],
-        Err(Refusal::List(owner, ListError { error, offset })) => {
-            [error.number(), owner as u64, offset, 0]
+        Ok(Found { owner, offset, length }) => [0, owner as u64, offset as u64, length as u64, 0],
+        Err(Refusal::List(owner, ListError { error, offset, depth })) => {
+            [error.number(), owner as u64, offset, 0, depth]
         }
-        Err(Refusal::KeyInNeither) => [Error::KeyInNeither.number(), 0, 0, 0],
+        Err(Refusal::KeyInNeither) => [Error::KeyInNeither.number(), 0, 0, 0, 0],
     }
 }
 
@@ -61,9 +61,7 @@ pub fn find(guest: &[u8], house: &[u8], key: &[u8]) -> Result<Found, Refusal> {
 /// The area must be one list, with no byte behind it.
 fn judge_whole(area: &[u8]) -> Result<(), ListError> {
     match list::size(area)? {
-        size if size < area.len() => {
-            Err(ListError { error: Error::BytesLeft, offset: size as u64 })
-        }
+        size if size < area.len() => Err(ListError::outside(Error::BytesLeft, size as u64)),
         _ => Ok(()),
     }
 }

@@ -16,7 +16,7 @@ pub enum Step {
 }
 
 /// The step's numbers as the C call answers them: at the end all are 0.
-pub fn numbers(step: Result<Step, ListError>) -> [u64; 5] {
+pub fn numbers(step: Result<Step, ListError>) -> [u64; 6] {
     list::numbers(step.map(|step| match step {
         Step::End => Decoded { consumed: 0, rows: 0, stored: 0 },
         Step::List(decoded) => decoded,
@@ -32,11 +32,11 @@ pub fn next(
     store: &mut [u8],
 ) -> Result<Step, ListError> {
     if rows.len() < ROWS_ROOM || store.len() < STORE_ROOM {
-        return Err(ListError { error: Error::BufferTooSmall, offset: 0 });
+        return Err(ListError::outside(Error::BufferTooSmall, 0));
     }
     let length = bytes.len() as u64;
     if offset > length {
-        return Err(ListError { error: Error::ListEnds, offset });
+        return Err(ListError::outside(Error::ListEnds, offset));
     }
     if offset == length {
         return Ok(Step::End);
@@ -87,8 +87,8 @@ fn lines_of(input: &[u8], mut line: impl FnMut(Decoded, &[u8], &[u8]) -> String)
                 let _ = writeln!(output, "end {offset}");
                 break;
             }
-            Err(ListError { error, offset }) => {
-                let _ = writeln!(output, "stop {} at {offset}", error.number());
+            Err(ListError { error, offset, depth }) => {
+                let _ = writeln!(output, "stop {} at {offset} depth {depth}", error.number());
                 break;
             }
         }

@@ -2,12 +2,15 @@
 //! on generated trees.
 
 use second_reader::definition::list as definition;
+use second_reader::depths::{counted, number, OF_BYTES};
 use second_reader::generate::list::{self as generate, Element};
 use second_reader::generate::writers;
-use second_reader::list::{decode, encode, ListError, LIST_LIMIT, ROWS_ROOM, STORE_ROOM};
+use second_reader::list::{
+    decode, encode, ListError, DEPTH_LIMIT, LIST_LIMIT, ROWS_ROOM, STORE_ROOM,
+};
 use second_reader::random::Random;
 use second_reader::Error;
-use std::collections::BTreeMap;
+use std::collections::{BTreeMap, BTreeSet};
 use writers::bytes_of as words;
 use Element::{Blob, Float, Int, List, String, Vocab};
 
@@ -15,9 +18,9 @@ fn numbers(rows: &[u8]) -> Vec<u32> {
     rows.chunks(4).map(|word| u32::from_le_bytes(word.try_into().unwrap())).collect()
 }
 
-/// Consumed bytes, row numbers and store bytes; or error number and offset. The store
-/// in use must be what the string and blob rows cover.
-fn read(bytes: &[u8]) -> Result<(usize, Vec<u32>, Vec<u8>), (u64, u64)> {
+/// Consumed bytes, row numbers and store bytes; or error number, offset and depth. The store
+/// in use must be what the string and blob rows cover, and the depth what is counted.
+fn read(bytes: &[u8]) -> Result<(usize, Vec<u32>, Vec<u8>), (u64, u64, u64)> {
     let mut rows = [0xa5; ROWS_ROOM];
     let mut store = [0xa5; STORE_ROOM];
     match decode(bytes, &mut rows, &mut store) {
@@ -30,19 +33,21 @@ fn read(bytes: &[u8]) -> Result<(usize, Vec<u32>, Vec<u8>), (u64, u64)> {
             assert!(store[used..].iter().all(|&byte| byte == 0xa5));
             Ok((decoded.consumed, filled, store[..used].to_vec()))
         }
-        Err(ListError { error, offset }) => {
+        Err(ListError { error, offset, depth }) => {
             assert!(rows.iter().chain(&store).all(|&byte| byte == 0xa5));
-            Err((error.number(), offset))
+            let error = error.number();
+            assert_eq!(counted(bytes, 0, error, offset), Some(depth), "{error} {bytes:02x?}");
+            Err((error, offset, depth))
         }
     }
 }
 
-fn fails(bytes: &[u8], error: u64, offset: u64) {
-    assert_eq!(read(bytes), Err((error, offset)), "{bytes:02x?}");
+fn fails(bytes: &[u8], error: u64, offset: u64, depth: u64) {
+    assert_eq!(read(bytes), Err((error, offset, depth)), "{bytes:02x?}");
 }
 
-fn words_fail(given: &[u32], error: u64, offset: u64) {
-    fails(&words(given), error, offset);
+fn words_fail(given: &[u32], error: u64, offset: u64, depth: u64) {
+    fails(&words(given), error, offset, depth);
 }
 
 fn write(rows: &[u32], store: &[u8]) -> Result<Vec<u8>, u64> {
@@ -114,54 +119,54 @@ fn bench_cases() {
     assert_eq!(write(&rows, &store), Ok(bytes));
 
     assert_eq!(read(&words(&[256, 0])), Ok((8, vec![256, 0, 0], vec![])));
-    words_fail(&[257, 0], 24, 0);
-    words_fail(&[256, 1, 1, 5], 24, 0);
-    words_fail(&[512, 0], 22, 0);
+    words_fail(&[257, 0], 24, 0, 1);
+    words_fail(&[256, 1, 1, 5], 24, 0, 1);
+    words_fail(&[512, 0], 22, 0, 0);
     assert_eq!(read(&nested(8)).map(|read| read.0), Ok(64));
-    fails(&nested(9), 27, 64);
+    fails(&nested(9), 27, 64, 8);
     assert_eq!(read(&ints(1022)).map(|(taken, rows, _)| (taken, rows.len())), Ok((4096, 3 * 1023)));
-    fails(&ints(1023), 28, 4096);
+    fails(&ints(1023), 28, 4096, 1);
 }
 
 #[test]
 fn places_of_faults() {
     let mut string = words(&[260, 1, 4]);
     string.extend(b"A\0A\0");
-    fails(&string, 25, 12);
-    words_fail(&[256, 1], 21, 8);
-    fails(&[], 21, 0);
-    fails(&[0, 1, 0], 21, 0);
-    words_fail(&[256], 21, 4);
-    words_fail(&[257, 0x7fff_ffff], 21, 8);
+    fails(&string, 25, 12, 1);
+    words_fail(&[256, 1], 21, 8, 1);
+    fails(&[], 21, 0, 0);
+    fails(&[0, 1, 0], 21, 0, 0);
+    words_fail(&[256], 21, 4, 1);
+    words_fail(&[257, 0x7fff_ffff], 21, 8, 1);
     let mut promising = words(&[257, 0x7fff_ffff]);
     promising.resize(5000, 0);
-    fails(&promising, 28, 4096);
-    words_fail(&[257, 0x8000_0000], 23, 4);
-    words_fail(&[256, 0xffff_ffff], 23, 4);
-    words_fail(&[256, 2, 1, 5, 1], 21, 20);
-    words_fail(&[256, 2, 1, 5, 1, 6], 24, 0);
-    words_fail(&[256, 2, 256, 1, 1, 5, 7], 24, 8);
-    words_fail(&[256, 2, 265, 0], 24, 8);
-    words_fail(&[256, 1, 7], 26, 8);
-    words_fail(&[256, 1, 0], 26, 8);
-    words_fail(&[0xffff_ff00, 0], 22, 0);
-    words_fail(&[1, 5], 22, 0);
+    fails(&promising, 28, 4096, 1);
+    words_fail(&[257, 0x8000_0000], 23, 4, 1);
+    words_fail(&[256, 0xffff_ffff], 23, 4, 1);
+    words_fail(&[256, 2, 1, 5, 1], 21, 20, 1);
+    words_fail(&[256, 2, 1, 5, 1, 6], 24, 0, 1);
+    words_fail(&[256, 2, 256, 1, 1, 5, 7], 24, 8, 2);
+    words_fail(&[256, 2, 265, 0], 24, 8, 2);
+    words_fail(&[256, 1, 7], 26, 8, 1);
+    words_fail(&[256, 1, 0], 26, 8, 1);
+    words_fail(&[0xffff_ff00, 0], 22, 0, 0);
+    words_fail(&[1, 5], 22, 0, 0);
     assert!(read(&words(&[256, 2, 257, 1, 5, 257, 1, 5])).is_ok());
 }
 
 #[test]
 fn lengths_of_strings_and_blobs() {
-    words_fail(&[260, 1, 0], 25, 8);
-    words_fail(&[260, 1, 0xffff_ffff], 25, 8);
-    words_fail(&[268, 1, 0xffff_ffff], 25, 8);
-    words_fail(&[268, 1, 0x8000_0000], 25, 8);
-    words_fail(&[260, 1, 0x7fff_ffff], 28, 12);
-    words_fail(&[268, 1, 0x7fff_ffff], 28, 12);
-    words_fail(&[268, 1, 4085], 28, 12);
-    words_fail(&[268, 1, 4084], 21, 12);
-    words_fail(&[268, 1], 21, 8);
-    words_fail(&[256, 2, 4, 0], 25, 12);
-    words_fail(&[260, 1, 4, 0x41414141], 25, 12);
+    words_fail(&[260, 1, 0], 25, 8, 1);
+    words_fail(&[260, 1, 0xffff_ffff], 25, 8, 1);
+    words_fail(&[268, 1, 0xffff_ffff], 25, 8, 1);
+    words_fail(&[268, 1, 0x8000_0000], 25, 8, 1);
+    words_fail(&[260, 1, 0x7fff_ffff], 28, 12, 1);
+    words_fail(&[268, 1, 0x7fff_ffff], 28, 12, 1);
+    words_fail(&[268, 1, 4085], 28, 12, 1);
+    words_fail(&[268, 1, 4084], 21, 12, 1);
+    words_fail(&[268, 1], 21, 8, 1);
+    words_fail(&[256, 2, 4, 0], 25, 12, 1);
+    words_fail(&[260, 1, 4, 0x41414141], 25, 12, 1);
     assert_eq!(read(&words(&[268, 1, 0])), Ok((12, vec![256, 1, 0, 12, 0, 0], vec![])));
     let mut empty_string = words(&[260, 1, 1]);
     empty_string.push(0);
@@ -178,38 +183,113 @@ fn blob_up_to(end: usize, count: u32, behind: &[u8]) -> Vec<u8> {
 
 #[test]
 fn the_limit_comes_before_the_end() {
-    fails(&blob_up_to(4096, 2, &[]), 28, 4096);
-    fails(&blob_up_to(4096, 2, &words(&[1, 5])), 28, 4096);
-    fails(&blob_up_to(4093, 2, &[]), 28, 4093);
-    fails(&blob_up_to(4092, 2, &[]), 21, 4092);
-    fails(&blob_up_to(4092, 2, &words(&[1])), 28, 4096);
-    fails(&blob_up_to(4092, 2, &words(&[7])), 26, 4092);
+    fails(&blob_up_to(4096, 2, &[]), 28, 4096, 1);
+    fails(&blob_up_to(4096, 2, &words(&[1, 5])), 28, 4096, 1);
+    fails(&blob_up_to(4093, 2, &[]), 28, 4093, 1);
+    fails(&blob_up_to(4092, 2, &[]), 21, 4092, 1);
+    fails(&blob_up_to(4092, 2, &words(&[1])), 28, 4096, 1);
+    fails(&blob_up_to(4092, 2, &words(&[7])), 26, 4092, 1);
+    // The code of a nested list stands in one list, its count in two.
+    fails(&blob_up_to(4093, 2, &words(&[256])), 28, 4093, 1);
+    fails(&blob_up_to(4092, 2, &words(&[256])), 28, 4096, 2);
     // The last element is a blob of no bytes that stands at the limit.
     let bytes = blob_up_to(4080, 3, &words(&[1, 5, 12, 0]));
     assert_eq!(read(&bytes).map(|read| read.0), Ok(4096));
-    assert_eq!(read(&blob_up_to(4096, 1, &[])), Err((24, 0)));
+    fails(&blob_up_to(4096, 1, &[]), 24, 0, 1);
 }
 
 #[test]
 fn depth_is_judged_at_the_code() {
     let mut at_depth_8 = [256, 1].repeat(8);
     at_depth_8.push(7);
-    words_fail(&at_depth_8, 26, 64);
+    words_fail(&at_depth_8, 26, 64, 8);
     for code in [256, 257, 260, 265, 266, 268] {
         at_depth_8[16] = code;
-        words_fail(&at_depth_8, 27, 64);
+        words_fail(&at_depth_8, 27, 64, 8);
     }
     at_depth_8[16] = 512;
-    words_fail(&at_depth_8, 26, 64);
-    fails(&words(&at_depth_8)[..67], 21, 64);
+    words_fail(&at_depth_8, 26, 64, 8);
+    fails(&words(&at_depth_8)[..67], 21, 64, 8);
     // A list code at depth 9 that passes the limit: the blob before it ends at `end`.
     for (end, error) in [(4092, 27), (4093, 28)] {
         let mut bytes = words(&[256, 1].repeat(7));
         bytes.extend(words(&[256, 2, 12, end - 72]));
         bytes.resize(end as usize, 0x55);
         bytes.extend(words(&[256, 0]));
-        fails(&bytes, error, end.into());
+        fails(&bytes, error, end.into(), 8);
     }
+}
+
+/// The lists that are open: from the count to the end of the last element.
+#[test]
+fn depths_of_faults() {
+    // A nested list's code, its count, what is in it, and what is behind it.
+    words_fail(&[256, 3, 256], 21, 12, 2);
+    fails(&words(&[256, 3, 256])[..11], 21, 8, 1);
+    words_fail(&[256, 3, 256, 0xffff_ffff], 23, 12, 2);
+    words_fail(&[256, 3, 256, 2], 21, 16, 2);
+    words_fail(&[256, 3, 256, 2, 256], 21, 20, 3);
+    words_fail(&[256, 3, 256, 2, 256, 0], 21, 24, 2);
+    words_fail(&[256, 3, 256, 2, 256, 0, 7], 26, 24, 2);
+    words_fail(&[256, 3, 256, 2, 256, 0, 256, 0], 21, 32, 1);
+    words_fail(&[256, 3, 256, 2, 256, 0, 256, 0, 7], 26, 32, 1);
+    words_fail(&[256, 3, 257, 1, 5, 260, 1, 0], 25, 28, 2);
+    words_fail(&[256, 3, 257, 1, 5, 4, 0], 25, 24, 1);
+    words_fail(&[256, 3, 256, 0, 268, 1, 0, 12, LIST_LIMIT as u32], 28, 36, 1);
+    // A blob of no bytes ends with its length, and the list of which it is the last.
+    words_fail(&[256, 2, 268, 1, 0, 7], 26, 20, 1);
+    // 24 has the depth of the list, whenever it is judged.
+    words_fail(&[256, 2, 256, 2, 256, 0, 257, 0], 24, 24, 3);
+    words_fail(&[256, 2, 256, 2, 256, 0, 256, 1, 1, 5], 24, 24, 3);
+    words_fail(&[256, 2, 1, 5, 1, 5], 24, 0, 1);
+    // Cut anywhere in eight lists, and in the ints behind each of them.
+    let mut given = [256, 2].repeat(7);
+    given.extend([256, 0]);
+    given.extend([1, 5].repeat(7));
+    for length in 0..4 * given.len() {
+        let word = length / 4;
+        let depth = if word < 16 { word.div_ceil(2) } else { 7 - (word - 16) / 2 };
+        fails(&words(&given)[..length], 21, 4 * word as u64, depth as u64);
+    }
+    assert!(read(&words(&given)).is_ok());
+}
+
+/// The generated faults have every error at every depth that it can have, and no other.
+#[test]
+fn faults_at_every_depth() {
+    let met = |lists: Vec<Vec<u8>>| -> BTreeSet<u64> {
+        let refused = lists.iter().filter_map(|bytes| read(bytes).err());
+        refused.map(|(error, _, depth)| number(error, depth)).collect()
+    };
+    assert_eq!(met(generate::faults()), BTreeSet::from(OF_BYTES));
+    let mut random = Random::new(16);
+    let any = (0..30_000).map(|_| generate::any(&mut random)).collect();
+    assert_eq!(met(any), BTreeSet::from(OF_BYTES));
+}
+
+/// The list with every kind at every depth, cut at each byte, and moved so that the limit
+/// falls on each: 21 and 28 at every item, wherever it stands.
+#[test]
+fn cut_at_every_depth() {
+    let whole = generate::image(&generate::at_every_depth());
+    assert_eq!(read(&whole).map(|read| read.0), Ok(whole.len()));
+    let mut met = BTreeSet::new();
+    for length in 0..whole.len() {
+        let (error, offset, depth) = read(&whole[..length]).unwrap_err();
+        assert_eq!(error, 21);
+        met.insert((error, depth));
+        let start = LIST_LIMIT - length;
+        let (error, moved, deeper) = read(&generate::behind_blob(start, &whole)).unwrap_err();
+        // In one list more, the deepest are too deep.
+        if error != 27 {
+            assert_eq!((error, moved, deeper), (28, start as u64 + offset, depth + 1));
+            met.insert((error, deeper));
+        }
+    }
+    let deepest = DEPTH_LIMIT as u64;
+    let cut = (0..=deepest).map(|depth| (21, depth));
+    let beyond = (1..=deepest).map(|depth| (28, depth));
+    assert_eq!(met, cut.chain(beyond).collect());
 }
 
 #[test]
@@ -218,7 +298,7 @@ fn buffers_are_judged_first() {
     for (rows, store) in [(0, 0), (12_287, 4096), (12_288, 4095), (12_300, 0)] {
         let mut rows = vec![0xa5; rows];
         let mut store = vec![0xa5; store];
-        let expected = Err(ListError { error: Error::BufferTooSmall, offset: 0 });
+        let expected = Err(ListError { error: Error::BufferTooSmall, offset: 0, depth: 0 });
         assert_eq!(decode(&list, &mut rows, &mut store), expected);
         assert_eq!(decode(&[], &mut rows, &mut store), expected);
         assert!(rows.iter().chain(&store).all(|&byte| byte == 0xa5));
@@ -370,7 +450,7 @@ fn what_is_accepted_writes_back() {
                 assert_eq!(write(&rows, &store).unwrap(), bytes[..consumed]);
                 assert!(rows.len() <= 3 * 1023);
             }
-            Err((error, offset)) => {
+            Err((error, offset, _)) => {
                 *met.entry(error).or_insert(0) += 1;
                 assert!(offset <= 4096 && offset <= bytes.len() as u64);
             }
@@ -395,7 +475,7 @@ fn every_kind_typed_and_untyped() {
         let typed = generate::image(&[one.clone(), one.clone()]);
         assert_eq!(typed[..8], words(&[code, 2])[..]);
         assert!(read(&typed).is_ok());
-        fails(&generate::misformed_image(&[one.clone(), one.clone()], 0), 24, 0);
+        fails(&generate::misformed_image(&[one.clone(), one.clone()], 0), 24, 0, 1);
         for (second, other) in kinds.iter().enumerate() {
             let mixed = generate::image(&[one.clone(), other.clone()]);
             assert_eq!(mixed[..4] == words(&[256])[..], first != second);
@@ -407,11 +487,11 @@ fn every_kind_typed_and_untyped() {
 #[test]
 fn reads_as_defined() {
     let mut random = Random::new(13);
-    for _ in 0..20_000 {
-        let bytes = generate::any(&mut random);
+    let any = (0..20_000).map(|_| generate::any(&mut random));
+    for bytes in generate::faults().into_iter().chain(any) {
         let expected = definition::read(&bytes);
         let expected = expected.map(|read| (read.consumed, read.rows, read.store));
-        let expected = expected.map_err(|fault| (fault.error.number(), fault.offset));
+        let expected = expected.map_err(|fault| (fault.error.number(), fault.offset, fault.depth));
         assert_eq!(read(&bytes), expected, "{bytes:02x?}");
     }
 }

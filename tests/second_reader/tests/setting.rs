@@ -1,32 +1,39 @@
 //! Settings: ticket d's sentences and the readings of its open points, and generated lookups.
 
 use second_reader::definition::setting as definition;
-use second_reader::generate::list::{image, misformed_image, Element};
+use second_reader::depths::{counted, number, OF_BYTES};
+use second_reader::generate::list::{faults, image, misformed_image, Element};
 use second_reader::generate::setting::{any, at_depth, entry, nearly, string};
 use second_reader::generate::writers::bytes_of as words;
 use second_reader::list::LIST_LIMIT;
 use second_reader::random::Random;
 use second_reader::setting::{find, numbers};
-use std::collections::BTreeMap;
+use std::collections::{BTreeMap, BTreeSet};
 use Element::{Blob, Int, List};
 
-/// Error, list, offset and length, of the reader and of the definition alike.
-fn look_up(guest: &[u8], house: &[u8], key: &[u8]) -> [u64; 4] {
+/// Error, list, offset, length and depth, of the reader and of the definition alike. The depth
+/// of a refusal must be what is counted.
+fn look_up(guest: &[u8], house: &[u8], key: &[u8]) -> [u64; 5] {
     let found = numbers(find(guest, house, key));
     let defined = numbers(definition::find(guest, house, key));
     assert_eq!(found, defined, "{guest:02x?} {house:02x?} {key:02x?}");
+    let [error, list, offset, _, depth] = found;
+    if error != 0 {
+        let area = [&[], guest, house][list as usize];
+        assert_eq!(counted(area, 0, error, offset), Some(depth), "{error} {area:02x?}");
+    }
     found
 }
 
-const IN_NEITHER: [u64; 4] = [33, 0, 0, 0];
+const IN_NEITHER: [u64; 5] = [33, 0, 0, 0, 0];
 
 /// The list of the value and its bytes, or the numbers of a refusal.
-type Value = Result<(u64, Vec<u8>), [u64; 4]>;
+type Value = Result<(u64, Vec<u8>), [u64; 5]>;
 
 fn value(guest: &[Element], house: &[Element], key: &[u8]) -> Value {
     let areas = [image(guest), image(house)];
     match look_up(&areas[0], &areas[1], key) {
-        [0, list, offset, length] => {
+        [0, list, offset, length, 0] => {
             let area = &areas[list as usize - 1];
             let (start, end) = (offset as usize, (offset + length) as usize);
             // What stands before the bytes counts the zero behind them.
@@ -62,14 +69,14 @@ fn house() -> Vec<u8> {
 fn places_of_values() {
     let (guest, house) = (guest(), house());
     assert_eq!((guest.len(), house.len()), (32, 56));
-    assert_eq!(look_up(&guest, &house, b"lamp"), [0, 1, 29, 2]);
-    assert_eq!(look_up(&guest, &house, b"cups"), [0, 2, 54, 1]);
+    assert_eq!(look_up(&guest, &house, b"lamp"), [0, 1, 29, 2, 0]);
+    assert_eq!(look_up(&guest, &house, b"cups"), [0, 2, 54, 1, 0]);
     assert_eq!(look_up(&guest, &house, b"door"), IN_NEITHER);
-    assert_eq!(look_up(&house, &guest, b"lamp"), [0, 1, 29, 3]);
-    assert_eq!(look_up(&house, &guest, b"cups"), [0, 1, 54, 1]);
+    assert_eq!(look_up(&house, &guest, b"lamp"), [0, 1, 29, 3, 0]);
+    assert_eq!(look_up(&house, &guest, b"cups"), [0, 1, 54, 1, 0]);
     let empty = words(&[256, 0]);
-    assert_eq!(look_up(&empty, &guest, b"lamp"), [0, 2, 29, 2]);
-    assert_eq!(look_up(&guest, &empty, b"lamp"), [0, 1, 29, 2]);
+    assert_eq!(look_up(&empty, &guest, b"lamp"), [0, 2, 29, 2, 0]);
+    assert_eq!(look_up(&guest, &empty, b"lamp"), [0, 1, 29, 2, 0]);
     assert_eq!(look_up(&empty, &empty, b"lamp"), IN_NEITHER);
     assert_eq!(look_up(&empty, &empty, b""), IN_NEITHER);
     // Behind an element of each kind: 8 + 8 + 8 + 12 + 10 + 11 bytes, and those of the entry.
@@ -81,7 +88,7 @@ fn places_of_values() {
         Blob(vec![1, 2, 3]),
         entry(b"lamp", b"on"),
     ];
-    assert_eq!(look_up(&image(&others), &empty, b"lamp"), [0, 1, 57 + 8 + 9 + 4, 2]);
+    assert_eq!(look_up(&image(&others), &empty, b"lamp"), [0, 1, 57 + 8 + 9 + 4, 2, 0]);
 }
 
 #[test]
@@ -134,8 +141,8 @@ fn what_is_no_entry() {
     // Two strings in a 256 list are refused, wherever it stands.
     let misformed = misformed_image(&[entry(b"k", b"v")], 1);
     assert_eq!(misformed[8..16], words(&[256, 2]));
-    assert_eq!(look_up(&misformed, &house(), b"lamp"), [24, 1, 8, 0]);
-    assert_eq!(look_up(&guest(), &misformed, b"lamp"), [24, 2, 8, 0]);
+    assert_eq!(look_up(&misformed, &house(), b"lamp"), [24, 1, 8, 0, 2]);
+    assert_eq!(look_up(&guest(), &misformed, b"lamp"), [24, 2, 8, 0, 2]);
 }
 
 #[test]
@@ -179,33 +186,52 @@ fn keys_and_values_of_every_kind() {
 #[test]
 fn refusals_name_the_list() {
     let (guest, house) = (guest(), house());
-    // The faults of 01's table, with their places.
+    // The faults of 01's table, with their places and depths.
     let mut string_open = guest.clone();
     string_open[31] = b'n';
     let mut zero_within = house.clone();
     zero_within[30] = 0;
-    let faults: [(Vec<u8>, u64, u64); 11] = [
-        (Vec::new(), 21, 0),
-        (guest[..3].to_vec(), 21, 0),
-        (guest[..31].to_vec(), 21, 29),
-        (words(&[512, 0]), 22, 0),
-        (words(&[256, 0xffff_ffff]), 23, 4),
-        (words(&[260, 0]), 24, 0),
-        (words(&[256, 1, 260, 0]), 24, 8),
-        (string_open, 25, 29),
-        (zero_within, 25, 29),
-        (words(&[256, 1, 7]), 26, 8),
-        ([&guest[..], &[0]].concat(), 29, 32),
+    let faults: [(Vec<u8>, u64, u64, u64); 12] = [
+        (Vec::new(), 21, 0, 0),
+        (guest[..3].to_vec(), 21, 0, 0),
+        (guest[..31].to_vec(), 21, 29, 2),
+        (words(&[512, 0]), 22, 0, 0),
+        (words(&[256, 0xffff_ffff]), 23, 4, 1),
+        (words(&[256, 2, 256, 0xffff_ffff]), 23, 12, 2),
+        (words(&[260, 0]), 24, 0, 1),
+        (words(&[256, 1, 260, 0]), 24, 8, 2),
+        (string_open, 25, 29, 2),
+        (zero_within, 25, 29, 2),
+        (words(&[256, 1, 7]), 26, 8, 1),
+        ([&guest[..], &[0]].concat(), 29, 32, 0),
     ];
-    for (area, error, offset) in &faults {
+    for (area, error, offset, depth) in &faults {
+        let refused = |list| [*error, list, *offset, 0, *depth];
         for key in [&b"lamp"[..], b"cups", b"door", b"", b"\0"] {
-            assert_eq!(look_up(area, &house, key), [*error, 1, *offset, 0]);
+            assert_eq!(look_up(area, &house, key), refused(1));
             // The house list is judged also where the guest's has the key.
-            assert_eq!(look_up(&guest, area, key), [*error, 2, *offset, 0]);
+            assert_eq!(look_up(&guest, area, key), refused(2));
             for (other, ..) in &faults {
-                assert_eq!(look_up(area, other, key), [*error, 1, *offset, 0]);
+                assert_eq!(look_up(area, other, key), refused(1));
             }
         }
+    }
+}
+
+/// The generated faults have every error of a list at every depth that it can have, in either
+/// list.
+#[test]
+fn depths_of_refusals() {
+    let (guest, house) = (guest(), house());
+    for owner in [1, 2] {
+        let mut met = BTreeSet::new();
+        for fault in faults() {
+            let areas = if owner == 1 { [&fault, &house] } else { [&guest, &fault] };
+            let [error, list, _, length, depth] = look_up(areas[0], areas[1], b"lamp");
+            assert_eq!((list, length), (owner, 0));
+            met.insert(number(error, depth));
+        }
+        assert_eq!(met, BTreeSet::from(OF_BYTES));
     }
 }
 
@@ -217,23 +243,23 @@ fn bytes_left_behind_a_list() {
             let behind = vec![byte; length];
             let guest_more = [&guest[..], &behind].concat();
             let house_more = [&house[..], &behind].concat();
-            assert_eq!(look_up(&guest_more, &house, b"lamp"), [29, 1, 32, 0]);
-            assert_eq!(look_up(&guest, &house_more, b"lamp"), [29, 2, 56, 0]);
-            assert_eq!(look_up(&guest_more, &house_more, b"door"), [29, 1, 32, 0]);
+            assert_eq!(look_up(&guest_more, &house, b"lamp"), [29, 1, 32, 0, 0]);
+            assert_eq!(look_up(&guest, &house_more, b"lamp"), [29, 2, 56, 0, 0]);
+            assert_eq!(look_up(&guest_more, &house_more, b"door"), [29, 1, 32, 0, 0]);
             // 29 comes last for a list, and the guest's 29 before all of the house list's.
-            assert_eq!(look_up(&guest_more, &house[..55], b"lamp"), [29, 1, 32, 0]);
-            assert_eq!(look_up(&guest[..31], &house_more, b"lamp"), [21, 1, 29, 0]);
+            assert_eq!(look_up(&guest_more, &house[..55], b"lamp"), [29, 1, 32, 0, 0]);
+            assert_eq!(look_up(&guest[..31], &house_more, b"lamp"), [21, 1, 29, 0, 2]);
         }
     }
     // Another list behind a list is no list of the area.
     let both = [&guest[..], &house].concat();
-    assert_eq!(look_up(&both, &house, b"cups"), [29, 1, 32, 0]);
-    assert_eq!(look_up(&house, &both, b"lamp"), [29, 2, 32, 0]);
+    assert_eq!(look_up(&both, &house, b"cups"), [29, 1, 32, 0, 0]);
+    assert_eq!(look_up(&house, &both, b"lamp"), [29, 2, 32, 0, 0]);
     // A fault within comes before the bytes behind.
     let mut misformed = words(&[256, 2, 257, 1, 5, 257, 0]);
     misformed.extend([0; 9]);
-    assert_eq!(look_up(&misformed, &house, b"lamp"), [24, 1, 20, 0]);
-    assert_eq!(look_up(&guest, &misformed, b"lamp"), [24, 2, 20, 0]);
+    assert_eq!(look_up(&misformed, &house, b"lamp"), [24, 1, 20, 0, 2]);
+    assert_eq!(look_up(&guest, &misformed, b"lamp"), [24, 2, 20, 0, 2]);
 }
 
 /// A list of so many bytes with one entry, whose key is `k`; 27 are not the value's.
@@ -246,23 +272,23 @@ fn of_size(size: usize) -> Vec<u8> {
 #[test]
 fn the_limit() {
     let full = of_size(LIST_LIMIT);
-    assert_eq!(look_up(&full, &guest(), b"k"), [0, 1, 26, 4069]);
-    assert_eq!(look_up(&guest(), &full, b"k"), [0, 2, 26, 4069]);
-    assert_eq!(look_up(&full, &full, b"k"), [0, 1, 26, 4069]);
-    assert_eq!(look_up(&full, &guest(), b"lamp"), [0, 2, 29, 2]);
+    assert_eq!(look_up(&full, &guest(), b"k"), [0, 1, 26, 4069, 0]);
+    assert_eq!(look_up(&guest(), &full, b"k"), [0, 2, 26, 4069, 0]);
+    assert_eq!(look_up(&full, &full, b"k"), [0, 1, 26, 4069, 0]);
+    assert_eq!(look_up(&full, &guest(), b"lamp"), [0, 2, 29, 2, 0]);
     let longer = of_size(LIST_LIMIT + 1);
-    assert_eq!(look_up(&longer, &full, b"k"), [28, 1, 26, 0]);
-    assert_eq!(look_up(&full, &longer, b"k"), [28, 2, 26, 0]);
+    assert_eq!(look_up(&longer, &full, b"k"), [28, 1, 26, 0, 2]);
+    assert_eq!(look_up(&full, &longer, b"k"), [28, 2, 26, 0, 2]);
     // A byte behind 4,096 of a list is left, not part of an item.
     let more = [&full[..], &[0]].concat();
-    assert_eq!(look_up(&more, &full, b"k"), [29, 1, 4096, 0]);
-    assert_eq!(look_up(&full, &more, b"k"), [29, 2, 4096, 0]);
-    assert_eq!(look_up(&more, &longer, b"k"), [29, 1, 4096, 0]);
+    assert_eq!(look_up(&more, &full, b"k"), [29, 1, 4096, 0, 0]);
+    assert_eq!(look_up(&full, &more, b"k"), [29, 2, 4096, 0, 0]);
+    assert_eq!(look_up(&more, &longer, b"k"), [29, 1, 4096, 0, 0]);
     // A key that takes up nearly all of the list.
     let key = vec![b'k'; 4070];
     let long_key = image(&[entry(&key, b"")]);
     assert_eq!(long_key.len(), LIST_LIMIT);
-    assert_eq!(look_up(&long_key, &guest(), &key), [0, 1, 4095, 0]);
+    assert_eq!(look_up(&long_key, &guest(), &key), [0, 1, 4095, 0, 0]);
     assert_eq!(look_up(&long_key, &guest(), &key[1..]), IN_NEITHER);
     assert_eq!(look_up(&long_key, &guest(), &[&key[..], b"k"].concat()), IN_NEITHER);
 }
@@ -277,8 +303,8 @@ fn depth() {
     }
     let deep = [entry(b"k", b"v"), at_depth(entry(b"k", b"v"), 9)];
     let offset = 8 + 8 + 6 + 6 + 7 * 8;
-    assert_eq!(value(&deep, &[], b"k"), Err([27, 1, offset, 0]));
-    assert_eq!(value(&[entry(b"k", b"v")], &deep, b"k"), Err([27, 2, offset, 0]));
+    assert_eq!(value(&deep, &[], b"k"), Err([27, 1, offset, 0, 8]));
+    assert_eq!(value(&[entry(b"k", b"v")], &deep, b"k"), Err([27, 2, offset, 0, 8]));
 }
 
 #[test]

@@ -1,10 +1,11 @@
-//! Streams of lists: steps, and what the run program prints.
+//! Streams of lists: steps, and what the programs run and show print.
 
+use second_reader::depths::counted;
 use second_reader::generate::writers::bytes_of as words;
 use second_reader::generate::{list, stream as generate};
 use second_reader::list::{decode, Decoded, ListError, ROWS_ROOM, STORE_ROOM};
 use second_reader::random::Random;
-use second_reader::stream::{next, run_output, Step};
+use second_reader::stream::{next, run_output, show_output, Step};
 use second_reader::Error;
 
 /// The primes followed by the two-list example.
@@ -25,7 +26,7 @@ fn bench_cases() {
     bytes.extend([0, 0]);
     assert_eq!(
         run_output(&bytes),
-        "list 1 bytes 40 rows 9\nlist 2 bytes 72 rows 10\nstop 21 at 112\n"
+        "list 1 bytes 40 rows 9\nlist 2 bytes 72 rows 10\nstop 21 at 112 depth 0\n"
     );
 }
 
@@ -33,7 +34,7 @@ fn bench_cases() {
 fn sizes_of_input() {
     assert_eq!(run_output(&[]), "end 0\n");
     assert_eq!(run_output(&[0; 32_769]), "too long\n");
-    assert_eq!(run_output(&[0; 32_768]), "stop 22 at 0\n");
+    assert_eq!(run_output(&[0; 32_768]), "stop 22 at 0 depth 0\n");
     let full = words(&[256, 0]).repeat(4096);
     let output = run_output(&full);
     assert_eq!(output.lines().count(), 4097);
@@ -45,19 +46,22 @@ fn order_of_a_step() {
     let bytes = examples();
     let mut rows = vec![0xa5; ROWS_ROOM];
     let mut store = vec![0xa5; STORE_ROOM];
-    let small = Err(ListError { error: Error::BufferTooSmall, offset: 0 });
+    let small = Err(ListError { error: Error::BufferTooSmall, offset: 0, depth: 0 });
     for offset in [0, 40, 112, 113] {
         assert_eq!(next(&bytes, offset, &mut rows[1..], &mut store), small);
         assert_eq!(next(&bytes, offset, &mut rows, &mut store[1..]), small);
     }
     for offset in [113, 114, 1 << 40, u64::MAX] {
-        let expected = Err(ListError { error: Error::ListEnds, offset });
+        let expected = Err(ListError { error: Error::ListEnds, offset, depth: 0 });
         assert_eq!(next(&bytes, offset, &mut rows, &mut store), expected);
     }
     assert_eq!(next(&bytes, 112, &mut rows, &mut store), Ok(Step::End));
     assert_eq!(next(&[], 0, &mut rows, &mut store), Ok(Step::End));
-    let inside = ListError { error: Error::NotAListCode, offset: 8 };
+    let inside = ListError { error: Error::NotAListCode, offset: 8, depth: 0 };
     assert_eq!(next(&bytes, 8, &mut rows, &mut store), Err(inside));
+    // Cut inside the strings of the second list.
+    let cut = ListError { error: Error::ListEnds, offset: 102, depth: 2 };
+    assert_eq!(next(&bytes[..111], 40, &mut rows, &mut store), Err(cut));
     assert!(rows.iter().chain(&store).all(|&byte| byte == 0xa5));
 }
 
@@ -72,7 +76,7 @@ fn limit_of_a_later_list() {
         "list 1 bytes 8 rows 1\nlist 2 bytes 4096 rows 1023\nend 4104\n"
     );
     bytes[12..16].copy_from_slice(&1023_u32.to_le_bytes());
-    assert_eq!(run_output(&bytes), "list 1 bytes 8 rows 1\nstop 28 at 4104\n");
+    assert_eq!(run_output(&bytes), "list 1 bytes 8 rows 1\nstop 28 at 4104 depth 1\n");
 }
 
 /// A series of steps hands over the stream's lists in order, whatever is lent; steps
@@ -100,12 +104,31 @@ fn series_of_steps() {
                     assert_eq!(step, Ok(Step::List(decoded)));
                     offset += decoded.consumed;
                 }
-                Err(ListError { error, offset: within }) => {
+                Err(ListError { error, offset: within, depth }) => {
                     let front = if error == Error::BufferTooSmall { 0 } else { offset as u64 };
-                    assert_eq!(step, Err(ListError { error, offset: front + within }));
+                    let place = front + within;
+                    assert_eq!(step, Err(ListError { error, offset: place, depth }));
+                    // Also over all lists before it.
+                    for front in [0, offset as u64] {
+                        assert_eq!(counted(&bytes, front, error.number(), place), Some(depth));
+                    }
                 }
             }
         }
+    }
+}
+
+/// Each generated fault behind two lists: the last line has the error, the place and the depth
+/// that the list alone has.
+#[test]
+fn stops_at_every_depth() {
+    let (mut rows, mut store) = (vec![0; ROWS_ROOM], vec![0; STORE_ROOM]);
+    for fault in list::faults().into_iter().filter(|fault| !fault.is_empty()) {
+        let bytes = [&examples()[..], &fault].concat();
+        let ListError { error, offset, depth } = decode(&fault, &mut rows, &mut store).unwrap_err();
+        let stop = format!("stop {} at {} depth {depth}", error.number(), 112 + offset);
+        assert_eq!(run_output(&bytes).lines().last(), Some(&stop[..]));
+        assert_eq!(show_output(&bytes).lines().last(), Some(&stop[..]));
     }
 }
 

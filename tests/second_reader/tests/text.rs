@@ -492,14 +492,14 @@ fn what_the_show_program_prints() {
     let lines = "2 3 5\n\nrefused 31\n([set]) \"\\\"\"\n";
     assert_eq!(show_output(&input), format!("{lines}end {end}\n"));
     input.extend([0, 0]);
-    assert_eq!(show_output(&input), format!("{lines}stop 21 at {end}\n"));
+    assert_eq!(show_output(&input), format!("{lines}stop 21 at {end} depth 0\n"));
     assert_eq!(show_output(&[]), "end 0\n");
     let mut full = image(&[]).repeat(RUN_LIMIT / 8);
     assert_eq!(show_output(&full), format!("{}end 32768\n", "\n".repeat(4096)));
     full.push(0);
     assert_eq!(show_output(&full), "too long\n");
     let nine = (1..9).fold(vec![], |inner, _| vec![List(inner)]);
-    assert_eq!(show_output(&[primes, image(&nine)].concat()), "2 3 5\nstop 27 at 84\n");
+    assert_eq!(show_output(&[primes, image(&nine)].concat()), "2 3 5\nstop 27 at 84 depth 8\n");
 }
 
 /// Every text of up to four characters of a small alphabet: those that are accepted are all

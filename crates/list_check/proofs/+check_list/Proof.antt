@@ -4,15 +4,17 @@ use mathlib.Core.Logic.{⊎-elim}
 use mathlib.Core.Path.{_≡_, sym, ap, _∙_}
 use native.Mathlib.Omega.{arith}
 use lib.ListN.{length}
-use borrow.Author.Tests.{not-true, not-false, le-leb, lt-leb}
+use borrow.Author.Tests.{not-true, not-false, ltb-true, le-leb, lt-leb}
 use Rattle.list.specs.declared.Kind.the-variants.{Int, Float, Str, Blob, Vocab}
 use Rattle.list.specs.Limits.{listLimit}
 use Rattle.list.specs.Kind.{kindOf}
 use Rattle.list.specs.Parse.{listAt}
 use Rattle.list.proofs.Codes.{kind-of-code}
 use Rattle.list_check.specs.Check.{judged}
+use Rattle.list_check.proofs.Told.{may-enclose, told-in}
+use Rattle.list_check.proofs.Typed.{value-enclose}
 use Rattle.list_check.proofs.Codes.{list-high, list-typed, no-kind}
-use Rattle.list_check.proofs.Mixed.{shallow, is-negative, is-typed, is-mixed, coded-missing, coded-unknown}
+use Rattle.list_check.proofs.Mixed.{list-depth, coded-depth, shallow, is-negative, is-typed, is-mixed, coded-missing, coded-unknown}
 use Rattle.list_check.proofs.Mixed.{rest, turn-fault, turn-value, turn-fixed, turn-stop, turn-list, turn-bad, mixed-done}
 use borrow.Author.Needs.{needs}
 use Prim.Native.Nat.{ℕ, _<_}
@@ -25,6 +27,7 @@ use Rattle.list.proofs.common_code.Reads as common-code-reads
 use Rattle.list_check.proofs.behind.Reads as behind-reads
 use Rattle.list_check.proofs.blob_end.Reads as blob-end-reads
 use Rattle.list_check.proofs.close.Reads as close-reads
+use Rattle.list_check.proofs.in_list.Reads as in-list-reads
 use Rattle.list_check.proofs.is_list_code.Reads as is-list-code-reads
 use Rattle.list_check.proofs.is_refused.Reads as is-refused-reads
 use Rattle.list_check.proofs.missing_value.Reads as missing-value-reads
@@ -51,6 +54,8 @@ abbrev calls : ℕ → check-list-lts.Claims
 calls t = (
   refuse-reads.Asked,
   refuse-reads.Learnt,
+  in-list-reads.Asked,
+  in-list-reads.Learnt,
   typed-list-reads.Asked,
   typed-list-reads.Learnt,
   tail-fault-reads.Asked,
@@ -86,8 +91,10 @@ abbrev μ-loop : check-list-lts.MeasureT-loop
 
 check-list-returns-2 : (t : ℕ) → check-list-lts.Need-returns-2 (calls t) (check-list-at t) check-list.Post Inv-loop μ-loop
 check-list-returns-2 t c =
-    let p = c .before .before .before .before .pre .1 in
-    c .refuse2 .ensures ∙ sym (is-negative _ _ _ _ _ (c .before .before .if1 .left) (p .1) (p .0) (p .3) (le-leb _ _ (c .before .if2 .taken)))
+    let i = c .before .before in
+    let p = i .before .before .before .pre .1 in
+    told-in _ _ _ (c .before .refuse2 .ensures) (c .in-list .ensures)
+    ∙ sym (is-negative _ _ _ _ _ (i .before .if1 .left) (p .1) (p .0) (p .3) (le-leb _ _ (i .if2 .taken)))
 
 check-list-returns-3 : (t : ℕ) → check-list-lts.Need-returns-3 (calls t) (check-list-at t) check-list.Post Inv-loop μ-loop
 check-list-returns-3 t c =
@@ -101,47 +108,66 @@ check-list-loop-holds t c =
     let p = c .before .before .before .before .pre .1 in
     (is-mixed _ _ _ _ _ (c .before .before .if1 .left) (p .1) (p .0) (p .3) (lt-leb _ _ (c .before .if2 .left)) (c .if3 .left), search needs)
 
+-- an element of which less than its code and a number is there
+check-list-in-list-requires-2 : (t : ℕ) → check-list-lts.Need-in-list-requires-2 (calls t) (check-list-at t) check-list.Post Inv-loop μ-loop
+check-list-in-list-requires-2 t c κs =
+    let a = c .before .before .before .before .before .before .before .before .args in
+    let p = c .before .before .before .before .before .before .before .before .pre .1 in
+    let d = coded-depth (a .depth - 1) _ _ _ (c .tail-fault .ensures) in
+    (d .0, omega (arith, d .1, p .4, c .before .before .before .before .before .before .if1 .left))
+
+check-list-returns-4 : (t : ℕ) → check-list-lts.Need-returns-4 (calls t) (check-list-at t) check-list.Post Inv-loop μ-loop
+check-list-returns-4 t c =
+    let o = c .before .before .before .before in
+    turn-fault _ _ _ _ _ _ _ _ _ (o .loop .inv .0) (c .before .before .before .loop-test .taken) (c .before .tail-fault .ensures) (c .in-list2 .ensures)
+
 check-list-returns-5 : (t : ℕ) → check-list-lts.Need-returns-5 (calls t) (check-list-at t) check-list.Post Inv-loop μ-loop
 check-list-returns-5 t c =
-    let u = c .before .before .before .before in
-    let o = c .before .before .before .before .before .before .before in
-    let a = c .before .before .before .before .before .before .before .before .before .before .before .before .args in
-    let p = c .before .before .before .before .before .before .before .before .before .before .before .before .pre .1 in
-    let k = ap kindOf (c .before .before .before .match .keys3) ∙ kind-of-code Float in
+    let i = c .before .before in
+    let u = i .before .before .before in
+    let o = u .before .before .before in
+    let a = o .before .before .before .before .before .args in
+    let p = o .before .before .before .before .before .pre .1 in
+    let k = ap kindOf (i .before .before .match .keys3) ∙ kind-of-code Float in
     let e =
     coded-missing (listAt (a .depth - 1) listLimit (a .s .now)) (a .s .now) (o .loop .pos) _ (p .1) (omega (arith, u .before .if4 .left)) (u .u32-at .ensures)
-    Float k (omega (arith, c .before .if5 .taken, c .before .before .behind3 .ensures)) in
-    turn-fault _ _ _ _ _ _ _ _ (o .loop .inv .0) (c .before .before .before .before .before .before .loop-test .taken) (rw e (c .missing-value .ensures))
+    Float k (omega (arith, i .if5 .taken, i .before .behind3 .ensures)) in
+    turn-fault _ _ _ _ _ _ _ _ _ (o .loop .inv .0) (u .before .before .loop-test .taken) (rw e (c .before .missing-value .ensures)) (c .in-list3 .ensures)
 
 check-list-returns-6 : (t : ℕ) → check-list-lts.Need-returns-6 (calls t) (check-list-at t) check-list.Post Inv-loop μ-loop
 check-list-returns-6 t c =
-    let u = c .before .before .before .before in
-    let o = c .before .before .before .before .before .before .before in
-    let p = c .before .before .before .before .before .before .before .before .before .before .before .before .pre .1 in
-    turn-stop _ _ _ _ _ _ _ (o .loop .inv .0) (c .before .before .before .before .before .before .loop-test .taken) (p .1) (omega (arith, u .before .if4 .left))
-    Str _ (sym (u .u32-at .ensures) ∙ c .before .before .before .match .keys4) (c .before .before .string-end .ensures) (sym (c .before .is-refused .ensures) ∙ c .if6 .taken)
+    let i = c .before in
+    let u = i .before .before .before .before in
+    let o = u .before .before .before in
+    let p = o .before .before .before .before .before .pre .1 in
+    turn-stop _ _ _ _ _ _ _ (o .loop .inv .0) (u .before .before .loop-test .taken) (p .1) (omega (arith, u .before .if4 .left))
+    Str _ _ (sym (u .u32-at .ensures) ∙ i .before .before .before .match .keys4) (i .before .before .string-end .ensures)
+    (sym (i .before .is-refused .ensures) ∙ i .if6 .taken) (c .in-list4 .ensures)
 
 check-list-returns-7 : (t : ℕ) → check-list-lts.Need-returns-7 (calls t) (check-list-at t) check-list.Post Inv-loop μ-loop
 check-list-returns-7 t c =
-    let u = c .before .before .before .before in
-    let o = c .before .before .before .before .before .before .before in
-    let p = c .before .before .before .before .before .before .before .before .before .before .before .before .pre .1 in
-    turn-stop _ _ _ _ _ _ _ (o .loop .inv .0) (c .before .before .before .before .before .before .loop-test .taken) (p .1) (omega (arith, u .before .if4 .left))
-    Blob _ (sym (u .u32-at .ensures) ∙ c .before .before .before .match .keys5) (c .before .before .blob-end .ensures) (sym (c .before .is-refused2 .ensures) ∙ c .if7 .taken)
+    let i = c .before in
+    let u = i .before .before .before .before in
+    let o = u .before .before .before in
+    let p = o .before .before .before .before .before .pre .1 in
+    turn-stop _ _ _ _ _ _ _ (o .loop .inv .0) (u .before .before .loop-test .taken) (p .1) (omega (arith, u .before .if4 .left))
+    Blob _ _ (sym (u .u32-at .ensures) ∙ i .before .before .before .match .keys5) (i .before .before .blob-end .ensures)
+    (sym (i .before .is-refused2 .ensures) ∙ i .if7 .taken) (c .in-list5 .ensures)
 
 check-list-returns-8 : (t : ℕ) → check-list-lts.Need-returns-8 (calls t) (check-list-at t) check-list.Post Inv-loop μ-loop
 check-list-returns-8 t c =
-    let u = c .before .before .before .before in
-    let o = c .before .before .before .before .before .before .before in
-    let a = c .before .before .before .before .before .before .before .before .before .before .before .before .args in
-    let p = c .before .before .before .before .before .before .before .before .before .before .before .before .pre .1 in
-    let r = c .before .before .before .match .rest in
+    let i = c .before .before in
+    let u = i .before .before .before in
+    let o = u .before .before .before in
+    let a = o .before .before .before .before .before .args in
+    let p = o .before .before .before .before .before .pre .1 in
+    let r = i .before .before .match .rest in
     let k = no-kind _ (r .0 .0 .0 .0 .1) (r .0 .0 .0 .1) (r .0 .0 .1) (r .0 .1) (r .1) in
-    let l = sym (c .before .before .is-list-code .ensures) ∙ not-true _ (c .before .if8 .taken) in
+    let l = sym (i .before .is-list-code .ensures) ∙ not-true _ (i .if8 .taken) in
     let e =
     coded-unknown (listAt (a .depth - 1) listLimit (a .s .now)) (a .s .now) (o .loop .pos) _ (p .1) (omega (arith, u .before .if4 .left)) (u .u32-at .ensures)
     k l in
-    turn-fault _ _ _ _ _ _ _ _ (o .loop .inv .0) (c .before .before .before .before .before .before .loop-test .taken) (rw e (c .refuse3 .ensures))
+    turn-fault _ _ _ _ _ _ _ _ _ (o .loop .inv .0) (u .before .before .loop-test .taken) (rw e (c .before .refuse3 .ensures)) (c .in-list6 .ensures)
 
 check-list-check-list-requires : (t : ℕ) → check-list-lts.Need-check-list-requires (calls t) (check-list-at t) check-list.Post Inv-loop μ-loop
 check-list-check-list-requires t c κs =
@@ -149,18 +175,27 @@ check-list-check-list-requires t c κs =
     let p = c .before .before .before .before .before .before .before .before .before .before .before .before .pre in
     let in₈ = i .before .before .before .if4 .left in (
       omega (arith, c .before .before .before .before .before .before .before .before .before .before .if1 .left, p .0),
-      (omega (arith, in₈), p .1 .1, sym (i .is-list-code .ensures) ∙ not-false _ (c .before .if8 .left), c .u32-at2 .ensures),
+      (omega (arith, in₈), p .1 .1, sym (i .is-list-code .ensures) ∙ not-false _ (c .before .if8 .left), c .u32-at2 .ensures, omega (arith, p .1 .4)),
     )
+
+-- at most as many lists are open in the inner list as may stand in it
+check-list-in-list-requires-7 : (t : ℕ) → check-list-lts.Need-in-list-requires-7 (calls t) (check-list-at t) check-list.Post Inv-loop μ-loop
+check-list-in-list-requires-7 t c κs =
+    let b = c .before .before .before .before .before .before .before .before .before .before .before .before .before in
+    let p = b .before .before .pre .1 in
+    let d = list-depth _ _ _ _ _ (c .before .before .check-list .ensures) in
+    (ltb-true _ _ (sym (c .before .is-refused3 .ensures) ∙ c .if9 .taken), omega (arith, d, p .4, b .if1 .left))
 
 check-list-returns-9 : (t : ℕ) → check-list-lts.Need-returns-9 (calls t) (check-list-at t) check-list.Post Inv-loop μ-loop
 check-list-returns-9 t c =
-    let i = c .before .before .before .before .before in
+    let n = c .before in
+    let i = n .before .before .before .before .before in
     let u = i .before .before in
     let o = u .before .before .before in
-    let p = c .before .before .before .before .before .before .before .before .before .before .before .before .before .before .before .pre .1 in
-    let l = sym (i .is-list-code .ensures) ∙ not-false _ (c .before .before .before .before .if8 .left) in
+    let p = o .before .before .before .before .before .pre .1 in
+    let l = sym (i .is-list-code .ensures) ∙ not-false _ (n .before .before .before .before .if8 .left) in
     turn-bad _ _ _ _ _ _ _ (o .loop .inv .0) (u .before .before .loop-test .taken) (p .1) (omega (arith, u .before .if4 .left))
-    _ _ (u .u32-at .ensures) l (c .before .before .check-list .ensures) (sym (c .before .is-refused3 .ensures) ∙ c .if9 .taken)
+    _ _ (u .u32-at .ensures) l (n .before .before .check-list .ensures) _ (sym (n .before .is-refused3 .ensures) ∙ n .if9 .taken) (c .in-list7 .ensures)
 
 check-list-loop-again : (t : ℕ) → check-list-lts.Need-loop-again (calls t) (check-list-at t) check-list.Post Inv-loop μ-loop
 check-list-loop-again t c =
@@ -203,6 +238,7 @@ pub +check-list-spec : {M : Type 1} → statement M
     (λ c. c .refuse .ensures ∙ sym (ap judged (shallow _ _ _ _ (c .before .if1 .taken))))
     (λ c. search needs)
     (λ c κs. search needs)
+    (λ c κs. may-enclose _ _ _ (c .refuse2 .ensures))
     (check-list-returns-2 t)
     (λ c. list-high _ (c .before .before .before .before .pre .1 .2))
     (λ c κs. search needs)
@@ -214,7 +250,8 @@ pub +check-list-spec : {M : Type 1} → statement M
     (λ c. search needs)
     (λ c. omega (arith, c .before .before .before .before .before .if1 .left))
     (λ c κs. search needs)
-    (λ c. turn-fault _ _ _ _ _ _ _ _ (c .before .before .before .loop .inv .0) (c .before .before .loop-test .taken) (c .tail-fault .ensures))
+    (check-list-in-list-requires-2 t)
+    (check-list-returns-4 t)
     (λ c κs. search needs)
     (λ c κs. search needs)
     (λ c κs. search needs)
@@ -222,26 +259,31 @@ pub +check-list-spec : {M : Type 1} → statement M
     (λ c κs. search needs)
     (λ c κs. search needs)
     (λ c κs. search needs)
+    (λ c κs. may-enclose _ _ _ (c .missing-value .ensures))
     (check-list-returns-5 t)
     (λ c κs. search needs)
     (λ c. search needs)
     (λ c κs. search needs)
     (λ c κs. search needs)
+    (λ c κs. value-enclose _ Str _ _ (c .before .before .string-end .ensures) (sym (c .before .is-refused .ensures) ∙ c .if6 .taken))
     (check-list-returns-6 t)
     (λ c κs. search needs)
     (λ c. search needs)
     (λ c κs. search needs)
     (λ c κs. search needs)
+    (λ c κs. value-enclose _ Blob _ _ (c .before .before .blob-end .ensures) (sym (c .before .is-refused2 .ensures) ∙ c .if7 .taken))
     (check-list-returns-7 t)
     (λ c κs. search needs)
     (λ c κs. search needs)
     (λ c κs. search needs)
+    (λ c κs. may-enclose _ _ _ (c .refuse3 .ensures))
     (check-list-returns-8 t)
     (λ c. search needs)
     (λ c κs. search needs)
     (λ c. omega (arith, c .before .before .before .before .before .before .before .before .before .before .if1 .left))
     (check-list-check-list-requires t)
     (λ c κs. search needs)
+    (check-list-in-list-requires-7 t)
     (check-list-returns-9 t)
     (λ c. search needs)
     (λ c. search needs)

@@ -8,7 +8,7 @@ use Rattle.list_check.proofs.answer.Tie as tie
 
 -- a number above the limit is refused
 above : tie.Need-refusal-of-requires
-above c κs = ltb-true _ _ (sym (c .before .is-refused .ensures) ∙ c .if1 .taken)
+above c κs = (ltb-true _ _ (sym (c .before .is-refused .ensures) ∙ c .if1 .taken), c .before .before .pre)
 
 returns-2 : tie.Need-returns-2
 unfolding toldBy

@@ -4,7 +4,7 @@ use mathlib.Core.Path.{ap, _∙_}
 use native.Mathlib.Omega.{arith}
 use lib.ListN.{length-take}
 use Rattle.list_check.specs.Check.{judged}
-use Rattle.list_check.proofs.Front.{part-same}
+use Rattle.list_check.proofs.Front.{part-same, parse-depth}
 use borrow.Author.Needs.{needs}
 use Rattle.list_check.proofs.check.Statement.{statement}
 use Rattle.list_check.proofs.check.Tie as tie
@@ -23,5 +23,5 @@ check-spec =
     (λ c. search needs)
     (λ c. omega (arith, c .last-end .ensures))
     (λ c κs. omega (arith, c .before .last-end .ensures, length-take (c .before .last-end .result - 0) (c .before .before .before .args .s .now)))
-    (λ c κs. search needs)
+    (λ c κs. parse-depth _ _ (c .check-front .ensures))
     returns)

@@ -5,9 +5,10 @@ use mathlib.Core.Logic.{⊎-elim}
 use native.Mathlib.Omega.{arith}
 use borrow.Author.Tests.{not-true, not-false}
 use Rattle.list.specs.declared.Kind.the-variants.{Int, Blob}
-use Rattle.list.specs.Parse.{isListCode}
+use Rattle.list.specs.Limits.{listLimit}
+use Rattle.list.specs.Parse.{isListCode, parse}
 use Rattle.list.proofs.Codes.{mixed-is-code, typed-is-code}
-use Rattle.list_check.proofs.Told.{told-end}
+use Rattle.list_check.proofs.Told.{told-end, refuses-told}
 use Rattle.list_check.proofs.Front.{front-list, front-other, front-empty, front-typed, front-ints}
 use borrow.Author.Needs.{needs}
 use Rattle.list_check.proofs.check_front.Statement.{statement}
@@ -66,7 +67,7 @@ check-list-requires : tie.Need-check-list-requires
 check-list-requires c κs =
     let v = c .before in
     let u = v .before in
-    (u .before .if1 .left, u .before .before .before .pre, is-list c, v .u32-at2 .ensures)
+    (u .before .if1 .left, u .before .before .before .pre, is-list c, v .u32-at2 .ensures, omega arith)
 
 -- any other list
 returns-6 : tie.Need-returns-6
@@ -82,7 +83,7 @@ check-front-spec =
     (tie.spec
     (λ c. search needs)
     (λ c κs. search needs)
-    (λ c. search needs)
+    (λ c. refuses-told _ (parse listLimit (c .before .before .before .args .s .now)) (c .front-fault .ensures))
     (λ c κs. search needs)
     (λ c κs. search needs)
     (λ c. search needs)

@@ -3,7 +3,7 @@ use mathlib.Core.Path.{sym, _∙_}
 use native.Mathlib.Omega.{arith}
 use Rattle.list.specs.Limits.{depthLimit}
 use Rattle.list.specs.Parse.{parse}
-use Rattle.list_check.proofs.Told.{item-missing, there}
+use Rattle.list_check.proofs.Told.{item-missing, there, may-enclose, told-in}
 use Rattle.list_check.proofs.Mixed.{short}
 use borrow.Author.Needs.{needs}
 use Rattle.list_check.proofs.front_fault.Statement.{statement}
@@ -16,11 +16,11 @@ returns c = rw (item-missing (c .before .before .before .args .s .now) 0 4 _ (c 
 returns-2 : tie.Need-returns-2
 unfolding parse
 returns-2 c =
-    let u = c .before .before .before in
-    let s = c .before .before .before .before .before .before .args .s .now in
-    let l = sym (c .before .before .is-list-code .ensures) ∙ c .before .if2 .taken in
+    let u = c .before .before .before .before in
+    let s = u .before .before .before .args .s .now in
+    let l = sym (c .before .before .before .is-list-code .ensures) ∙ c .before .before .if2 .taken in
     rw (there s 0 4 (omega arith) (u .before .if1 .left), ← u .u32-at .ensures, l, short depthLimit s 0 (u .u32-at .result) (λ e. omega arith) (omega arith))
-    (c .missing2 .ensures)
+    (told-in _ _ _ (c .before .missing2 .ensures) (c .in-list .ensures))
 
 returns-3 : tie.Need-returns-3
 unfolding parse
@@ -38,6 +38,7 @@ front-fault-spec =
     (λ c κs. search needs)
     (λ c κs. search needs)
     (λ c κs. search needs)
+    (λ c κs. may-enclose _ _ _ (c .missing2 .ensures))
     returns-2
     (λ c κs. search needs)
     returns-3)

@@ -8,7 +8,7 @@ use Rattle.list_check.proofs.refusal_of.Tie as tie
 
 returns : tie.Need-returns
 unfolding toldBy
-returns c = rw (lt-ltb listLimit (c .args .j) (c .pre))
+returns c = rw (lt-ltb listLimit (c .args .j) (c .pre .0))
 
 pub refusal-of-spec : {M : Type 1} → statement M
-refusal-of-spec = tie.close (tie.spec (λ c. search needs) returns)
+refusal-of-spec = tie.close (tie.spec (λ c. search needs) (λ c. search needs) returns)

@@ -16,7 +16,8 @@ returns c =
     let o = c .args .offset in
     let e : (2 * listLimit * n + o) / (2 * listLimit) % 256 ≡ n = omega arith in
     let f : (2 * listLimit * n + o) % (2 * listLimit) ≡ o = omega arith in
-    rw (lt-ltb listLimit (2 * listLimit * n + o) (omega arith), e, f)
+    let d : (2 * listLimit * n + o) / (256 * (2 * listLimit)) ≡ 0 = omega arith in
+    rw (lt-ltb listLimit (2 * listLimit * n + o) (omega arith), e, f, d)
 
 pub refuse-spec : {M : Type 1} → statement M
 refuse-spec = tie.close (tie.spec (λ c. search needs) (λ c. search needs) returns)

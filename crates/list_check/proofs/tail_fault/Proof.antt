@@ -2,7 +2,7 @@
 use mathlib.Core.Path.{sym, _∙_}
 use native.Mathlib.Omega.{arith}
 use Rattle.list.specs.Parse.{codedAt}
-use Rattle.list_check.proofs.Told.{item-missing}
+use Rattle.list_check.proofs.Told.{may-enclose, told-in, item-missing}
 use Rattle.list_check.proofs.Typed.{size-small}
 use Rattle.list_check.proofs.Mixed.{coded-missing, coded-unknown, coded-list, shallow, short}
 use borrow.Author.Needs.{needs}
@@ -24,12 +24,13 @@ returns-2 c =
 
 returns-3 : tie.Need-returns-3
 returns-3 c =
-    let u = c .before .before .before .before in
-    let a = c .before .before .before .before .before .before .before .args in
-    let p = c .before .before .before .before .before .before .before .pre in
-    let l = sym (c .before .before .before .is-list-code .ensures) ∙ c .before .before .if2 .taken in
-    let e = short _ _ _ _ (c .before .if3 .left) (p .1) in
-    rw (coded-list _ (a .s .now) (a .pos) _ (p .2) (u .before .if1 .left) (u .u32-at .ensures) _ l e) (c .missing2 .ensures)
+    let u = c .before .before .before .before .before in
+    let a = u .before .before .before .args in
+    let p = u .before .before .before .pre in
+    let l = sym (c .before .before .before .before .is-list-code .ensures) ∙ c .before .before .before .if2 .taken in
+    let e = short _ _ _ _ (c .before .before .if3 .left) (p .1) in
+    rw (coded-list _ (a .s .now) (a .pos) _ (p .2) (u .before .if1 .left) (u .u32-at .ensures) _ l e)
+    (told-in _ _ _ (c .before .missing2 .ensures) (c .in-list .ensures))
 
 returns-4 : tie.Need-returns-4
 returns-4 c =
@@ -63,6 +64,7 @@ tail-fault-spec =
     returns-2
     (λ c. search needs)
     (λ c κs. search needs)
+    (λ c κs. may-enclose _ _ _ (c .missing2 .ensures))
     returns-3
     (λ c κs. search needs)
     (λ c. search needs)

@@ -6,7 +6,8 @@ use borrow.Author.Needs.{needs}
 use Rattle.list.specs.declared.Kind.the-variants.{Int, Float, Str, Blob, Vocab}
 use Rattle.list.specs.Kind.{codeOf, kindOf}
 use Rattle.list.proofs.Codes.{not-kind, each-kind}
-use Rattle.list_skip.specs.Skip.{valueSize, stride}
+use Rattle.list.specs.Open.{valueSize}
+use Rattle.list_skip.specs.Skip.{stride}
 use Rattle.list_skip.proofs.Ends.{stride-value, stride-list}
 use Rattle.list_skip.proofs.stride_at.Statement.{statement}
 use Rattle.list_skip.proofs.stride_at.Tie as tie

@@ -1,45 +1,35 @@
 -- `report::put_stop` meets its contract: its pieces in a row.
+use Prim.Native.Nat.{ℕ}
 use mathlib.Core.Path.{ap, _∙_}
-use mathlib.Core.List.{[], _∷_}
+use mathlib.Core.List.{List, [], _∷_}
 use borrow.Author.Needs.{needs}
 use Rattle.digits.specs.Decimal.{decimal}
 use Rattle.output.specs.Output.{puts, newline}
 use Rattle.report.proofs.put_stop.Statement.{statement}
 use Rattle.report.proofs.put_stop.Tie as tie
 
-slice-aggregate-put-number : tie.Need-slice-aggregate-put-number
-slice-aggregate-put-number c = search needs
-
-cast-put-number : tie.Need-cast-put-number
-cast-put-number c = search needs
-
-put-number-requires : tie.Need-put-number-requires
-put-number-requires c κs = search needs
-
-slice-aggregate-put-line : tie.Need-slice-aggregate-put-line
-slice-aggregate-put-line c = search needs
-
-put-line-requires : tie.Need-put-line-requires
-put-line-requires c κs = search needs
-
-same-length : tie.Need-same-length
-same-length c = search needs
-
 returns : tie.Need-returns
 unfolding puts
 returns c =
-    let a = c .before .before .before .before .before .before .before .before .before .before .before .before .args in
+    let place = c .before .before .before .before .before .before .before .before in
+    let error = place .before .before .before .before .before in
+    let r = error .before .before .before .before .before .args .refusal in
+    let rest : List (List ℕ) = (32 ∷ 100 ∷ 101 ∷ 112 ∷ 116 ∷ 104 ∷ 32 ∷ []) ∷ decimal (r .depth) ∷ newline ∷ [] in
     c .before .before .put-line .ensures
-    ∙ ap (λ t. puts t ((32 ∷ 97 ∷ 116 ∷ 32 ∷ []) ∷ decimal (a .refusal .offset) ∷ newline ∷ [])) (c .before .before .before .before .before .before .before .put-number .ensures)
+    ∙ ap (λ t. puts t rest) (place .put-number2 .ensures)
+    ∙ ap (λ t. puts t ((32 ∷ 97 ∷ 116 ∷ 32 ∷ []) ∷ decimal (r .offset) ∷ rest)) (error .put-number .ensures)
 
 pub put-stop-spec : {M : Type 1} → statement M
 put-stop-spec =
     tie.close
     (tie.spec
-    slice-aggregate-put-number
-    cast-put-number
-    put-number-requires
-    slice-aggregate-put-line
-    put-line-requires
-    same-length
+    (λ c. search needs)
+    (λ c. search needs)
+    (λ c κs. search needs)
+    (λ c. search needs)
+    (λ c κs. search needs)
+    (λ c. search needs)
+    (λ c. search needs)
+    (λ c κs. search needs)
+    (λ c. search needs)
     returns)

@@ -236,7 +236,7 @@ module _ {M : Type 1} (𝓤 : URA M) (H : Heap 𝓤) (A : Atoms 𝓤) (W : Given
       pv = sliceVal (p .ptr) (length (p .now))
 
       abbrev made : Setting
-      made = record { error = l .error; list = l .list; offset = l .offset; part = p }
+      made = record { error = l .error; list = l .list; offset = l .offset; part = p; depth = l .depth }
 
       abbrev α : NamedLft
       α = namedLft 3 0 tt κs
@@ -251,12 +251,13 @@ module _ {M : Type 1} (𝓤 : URA M) (H : Heap 𝓤) (A : Atoms 𝓤) (W : Given
           says ! (answered (now g) (now h) (lookup (now g) (now h) (now k)) l (now p) (e .is) d) $
           -- the tokens of the three lifetimes are joined, and what the parameters own was kept whole
           move ! (1 ∷ []) $ split ! $ move ! (0 ∷ 4 ∷ []) $ join ! $ frame ! $ move ! (2 ∷ []) $ frame ! $
-          -- [nothing; what p owns]: with the facts of the three numbers it is what the struct owns
+          -- [nothing; what p owns]: with the facts of the four numbers it is what the struct owns
+          owned ! u8 (Is u8) (uint-makes 𝓤 H A W w8) (l .depth) _ (refl, wt .1 .1 .1 .1 .1 .0 .fits) $ fjoin ! $
           move ! (1 ∷ 0 ∷ []) $ fjoin ! $
           owned ! usize (Is usize) (uint-makes 𝓤 H A W w64) (l .offset) _ (refl, wt .1 .1 .1 .0 .fits) $ fjoin ! $
           owned ! u8 (Is u8) (uint-makes 𝓤 H A W w8) (l .list) _ (refl, wt .1 .1 .0 .fits) $ fjoin ! $
           owned ! u8 (Is u8) (uint-makes 𝓤 H A W w8) (l .error) _ (refl, wt .1 .0 .fits) $ fjoin ! $
-          by ! (own-shut 𝓤 H A W (T.the-type α) (T′.the-laws α) (l .error, (l .list, (l .offset, (p, tt)))))
+          by ! (own-shut 𝓤 H A W (T.the-type α) (T′.the-laws α) (l .error, (l .list, (l .offset, (p, (l .depth, tt))))))
 
   module _ (C : Calls 𝓤 H) (Λ : Loops 𝓤 H) (fm : FmC 𝓤 H (W .laws) C) (known-look-up : Triple 𝓤 (C #setting·look_up) (LookUp 𝓤 H A mem run))
       (known-part : Triple 𝓤 (C #setting·part) (Part 𝓤 H A mem run)) where
@@ -302,13 +303,14 @@ module _ {M : Type 1} (𝓤 : URA M) (H : Heap 𝓤) (A : Atoms 𝓤) (W : Given
         rewrite ! 4 (λ (vs : List Val). ‵ (fat fullShare (sliceTy (tyRef erased imm (tyInt w8))) l₅ 0 (only vs))) told refl $
         rewrite ! 0 (λ (vs : List Val). ‵ (Guest .own p vs)) told refl $
         let ip = at-told Guest slice-vals (shr-slice-tells (named 0) κ u8) p (w ∷ []) is′ in
-        -- _0 = Setting { _4.error, _4.list, _4.offset, _5 }
+        -- _0 = Setting { _4.error, _4.list, _4.offset, _5, _4.depth }
         assigns ! (agg !
         (and-then ! (load ! (from ! (fld ! refl (stop !))) (look-in ! 6 (sub ! 0 refl (whole !))))
         (and-then ! (load ! (from ! (fld ! refl (stop !))) (look-in ! 6 (sub ! 1 refl (whole !))))
         (and-then ! (load ! (from ! (fld ! refl (stop !))) (look-in ! 6 (sub ! 2 refl (whole !))))
-        (and-then ! (load ! (from ! (stop !)) (look ! 4 refl)) (no-more !)))))) (from ! (stop !))
-        (init ! 14 refl (tt, (wt .1 .0, (wt .1 .1 .0, (wt .1 .1 .1 .0, (shr-slice-lawful 𝓤 H A W (named 0) κ u8 .typed p _ ip .0 .1, tt)))))) $
+        (and-then ! (load ! (from ! (stop !)) (look ! 4 refl))
+        (and-then ! (load ! (from ! (fld ! refl (stop !))) (look-in ! 6 (sub ! 4 refl (whole !)))) (no-more !))))))) (from ! (stop !))
+        (init ! 14 refl (tt, (wt .1 .0, (wt .1 .1 .0, (wt .1 .1 .1 .0, (shr-slice-lawful 𝓤 H A W (named 0) κ u8 .typed p _ ip .0 .1, (wt .1 .1 .1 .1 .1 .0, tt))))))) $
         returns ! (look ! 14 refl) $
         forget ! 4 refl $ forget ! 6 refl $ forget ! 8 refl $ forget ! 10 refl $ forget ! 12 refl $ forget ! 14 refl $
         move ! (14 ∷ 15 ∷ []) $ free1 ! $ move ! (12 ∷ 13 ∷ []) $ free1 ! $ move ! (10 ∷ 11 ∷ []) $ free1 ! $

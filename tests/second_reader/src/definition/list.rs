@@ -17,16 +17,16 @@ pub struct Read {
 /// The list at the front of the bytes.
 pub fn read(bytes: &[u8]) -> Result<Read, ListError> {
     let mut reading = Reading { bytes, at: 0, rows: Vec::new(), store: Vec::new() };
-    let code = reading.word()?;
+    let code = reading.word(0)?;
     if !is_list(code) {
-        return fault(Error::NotAListCode, 0);
+        return fault(Error::NotAListCode, 0, 0);
     }
     reading.list(code, 0, 1)?;
     Ok(Read { consumed: reading.at, rows: reading.rows, store: reading.store })
 }
 
-fn fault<Any>(error: Error, offset: usize) -> Result<Any, ListError> {
-    Err(ListError { error, offset: offset as u64 })
+fn fault<Any>(error: Error, offset: usize, depth: usize) -> Result<Any, ListError> {
+    Err(ListError { error, offset: offset as u64, depth: depth as u64 })
 }
 
 fn is_kind(code: u32) -> bool {
@@ -45,71 +45,73 @@ struct Reading<'a> {
 }
 
 impl<'a> Reading<'a> {
-    fn item(&mut self, size: usize) -> Result<&'a [u8], ListError> {
+    /// The next item, which stands in so many lists.
+    fn item(&mut self, size: usize, depth: usize) -> Result<&'a [u8], ListError> {
         let (start, end) = (self.at, self.at + size);
         if end > LIST_LIMIT {
-            return fault(Error::BeyondLimit, start);
+            return fault(Error::BeyondLimit, start, depth);
         }
         if end > self.bytes.len() {
-            return fault(Error::ListEnds, start);
+            return fault(Error::ListEnds, start, depth);
         }
         self.at = end;
         Ok(&self.bytes[start..end])
     }
 
-    fn word(&mut self) -> Result<u32, ListError> {
-        self.item(4).map(|bytes| u32::from_le_bytes(bytes.try_into().unwrap()))
+    fn word(&mut self, depth: usize) -> Result<u32, ListError> {
+        self.item(4, depth).map(|bytes| u32::from_le_bytes(bytes.try_into().unwrap()))
     }
 
-    /// A list behind its code.
+    /// A list of this depth, behind its code, which stands in one list fewer. All that follows
+    /// is in this list, and 24 is at its depth too.
     fn list(&mut self, code: u32, code_at: usize, depth: usize) -> Result<(), ListError> {
         let count_at = self.at;
-        let count = self.word()?;
+        let count = self.word(depth)?;
         if count > i32::MAX as u32 {
-            return fault(Error::NegativeCount, count_at);
+            return fault(Error::NegativeCount, count_at, depth);
         }
         self.rows.extend([256, count, 0]);
         if code > 256 && count == 0 {
-            return fault(Error::NotCanonical, code_at);
+            return fault(Error::NotCanonical, code_at, depth);
         }
         let mut kinds = BTreeSet::new();
         for _ in 0..count {
             let element_at = self.at;
-            let element = if code > 256 { code - 256 } else { self.word()? };
+            let element = if code > 256 { code - 256 } else { self.word(depth)? };
             if is_kind(element) {
                 kinds.insert(element);
-                self.element(element)?;
+                self.element(element, depth)?;
             } else if !is_list(element) {
-                return fault(Error::ElementCodeUnknown, element_at);
+                return fault(Error::ElementCodeUnknown, element_at, depth);
             } else if depth == DEPTH_LIMIT {
-                return fault(Error::TooDeep, element_at);
+                return fault(Error::TooDeep, element_at, depth);
             } else {
                 kinds.insert(256);
                 self.list(element, element_at, depth + 1)?;
             }
         }
         if code == 256 && kinds.len() == 1 && !kinds.contains(&256) {
-            return fault(Error::NotCanonical, code_at);
+            return fault(Error::NotCanonical, code_at, depth);
         }
         Ok(())
     }
 
-    fn element(&mut self, code: u32) -> Result<(), ListError> {
+    fn element(&mut self, code: u32, depth: usize) -> Result<(), ListError> {
         let length_at = self.at;
-        let first = self.word_or_float(code)?;
+        let first = self.word_or_float(code, depth)?;
         match code {
             1 | 9 => self.rows.extend([code, first as u32, 0]),
             10 => self.rows.extend([code, first as u32, (first >> 32) as u32]),
             _ => {
                 let length = first as u32 as i32;
                 if length < i32::from(code == 4) {
-                    return fault(Error::StringOrBlob, length_at);
+                    return fault(Error::StringOrBlob, length_at, depth);
                 }
                 let run_at = self.at;
-                let mut run = self.item(length as usize)?;
+                let mut run = self.item(length as usize, depth)?;
                 if code == 4 {
                     if run.iter().position(|&byte| byte == 0) != Some(run.len() - 1) {
-                        return fault(Error::StringOrBlob, run_at);
+                        return fault(Error::StringOrBlob, run_at, depth);
                     }
                     run = &run[..run.len() - 1];
                 }
@@ -121,10 +123,10 @@ impl<'a> Reading<'a> {
     }
 
     /// The 8 bytes of a float; else the number that an element begins with.
-    fn word_or_float(&mut self, code: u32) -> Result<u64, ListError> {
+    fn word_or_float(&mut self, code: u32, depth: usize) -> Result<u64, ListError> {
         match code {
-            10 => self.item(8).map(|bytes| u64::from_le_bytes(bytes.try_into().unwrap())),
-            _ => self.word().map(u64::from),
+            10 => self.item(8, depth).map(|bytes| u64::from_le_bytes(bytes.try_into().unwrap())),
+            _ => self.word(depth).map(u64::from),
         }
     }
 }

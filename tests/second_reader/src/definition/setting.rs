@@ -24,7 +24,7 @@ pub fn find(guest: &[u8], house: &[u8], key: &[u8]) -> Result<Found, Refusal> {
 pub fn whole(area: &[u8]) -> Result<Vec<Element>, ListError> {
     let list = read(area)?;
     if list.consumed < area.len() {
-        return Err(ListError { error: Error::BytesLeft, offset: list.consumed as u64 });
+        return Err(ListError::outside(Error::BytesLeft, list.consumed as u64));
     }
     let elements = writable(&bytes_of(&list.rows), &list.store).expect("a list that was read");
     assert_eq!(image(&elements), area);

@@ -1,8 +1,9 @@
 //! Lists as trees, with the bytes and the rows that the paper gives for them, and
 //! trees and bytes of every kind, at the limits and beyond.
 
+use super::writers::bytes_of;
 use super::{damage, replace_word};
-use crate::list::{Kind, DEPTH_LIMIT, LIST_CODE, LIST_LIMIT};
+use crate::list::{Kind, DEPTH_LIMIT, LIST_CODE, LIST_HEADER, LIST_LIMIT, WORD};
 use crate::random::Random;
 
 /// An element; a list is a `List`. Strings are held without their closing zero.
@@ -205,6 +206,119 @@ pub fn nested(random: &mut Random, depth: usize) -> Vec<Element> {
     list
 }
 
+/// A list of every kind of element at every depth: lists of each form stand before the next
+/// deeper one, and other elements behind it.
+pub fn at_every_depth() -> Vec<Element> {
+    (1..=DEPTH_LIMIT).rev().fold(Vec::new(), |deeper, depth| {
+        let mut list = vec![Int(1), Float(2), String(b"abc".to_vec()), Blob(vec![0, 5])];
+        if depth < DEPTH_LIMIT {
+            list.extend([List(vec![]), List(vec![Vocab(3); 2]), List(deeper)]);
+        }
+        list.extend([Vocab(4), String(vec![])]);
+        list
+    })
+}
+
+/// These bytes as the last element of an outermost list, behind a blob that ends at `start`.
+pub fn behind_blob(start: usize, bytes: &[u8]) -> Vec<u8> {
+    let blob = Blob(vec![0x55; start - LIST_HEADER - 2 * WORD]);
+    inside(2, bytes, |_| vec![blob.clone()])
+}
+
+/// These bytes in the place of a list at this depth, as the last element in each list about
+/// it; `before` answers the elements that a list of some depth has before that.
+fn inside(depth: usize, bytes: &[u8], mut before: impl FnMut(usize) -> Vec<Element>) -> Vec<u8> {
+    let mut all = Vec::new();
+    for outer in 1..depth {
+        let mut elements = before(outer);
+        elements.push(List(Vec::new()));
+        let list = image(&elements);
+        // What follows takes the place of the empty list.
+        all.extend(&list[..list.len() - LIST_HEADER]);
+    }
+    all.extend(bytes);
+    all
+}
+
+const LONG: u32 = LIST_LIMIT as u32;
+const NEGATIVE: u32 = u32::MAX;
+
+/// The front of a list as far as its fault: cut at each kind of item, and with each error of
+/// its own. What is 22 at an outermost code is 26 at another.
+const FAULTY: [&[u32]; 32] = [
+    // 21 at the code, the count, an element or its code, a length, and a run of bytes.
+    &[],
+    &[256],
+    &[256, 1],
+    &[256, 2, 1, 5],
+    &[256, 1, 9],
+    &[256, 1, 10, 0],
+    &[256, 1, 4],
+    &[256, 1, 12, 5, 0],
+    &[257, 2, 5],
+    &[266, 1, 0],
+    &[260, 1],
+    &[268, 1, 5, 0],
+    // 22 and 26.
+    &[0, 0],
+    &[261, 1],
+    &[256, 1, 7],
+    &[256, 2, 1, 5, 512],
+    // 23.
+    &[256, NEGATIVE],
+    &[260, NEGATIVE],
+    // 24 at the count and behind the last element.
+    &[257, 0],
+    &[268, 0],
+    &[256, 1, 1, 5],
+    &[256, 2, 12, 0, 12, 0],
+    // 25 at a length and at a run of bytes.
+    &[260, 1, 0],
+    &[268, 1, NEGATIVE],
+    &[256, 2, 4, 0],
+    &[256, 1, 12, NEGATIVE],
+    &[260, 1, 1, 5],
+    &[256, 1, 4, 4, 0],
+    // 28 at a run of bytes.
+    &[260, 1, LONG],
+    &[268, 1, LONG],
+    &[256, 1, 4, LONG],
+    &[256, 1, 12, LONG],
+];
+
+/// Bytes with a fault, for every error at every depth that it can have. In the lists about it
+/// stands nothing before it, or lists that are closed. One deeper than may be, it is 27 for most.
+pub fn faults() -> Vec<Vec<u8>> {
+    let closed = |outer| match outer {
+        DEPTH_LIMIT => vec![Int(5)],
+        _ => vec![List(vec![Int(5)]), List(vec![])],
+    };
+    let mut all = Vec::new();
+    for depth in 1..=DEPTH_LIMIT + 1 {
+        for faulty in FAULTY.map(bytes_of) {
+            all.push(inside(depth, &faulty, |_| Vec::new()));
+            all.push(inside(depth, &faulty, closed));
+        }
+    }
+    all
+}
+
+/// A fault at any depth, with elements before it in some of the lists about it; at times they
+/// come to the limit.
+fn any_fault(random: &mut Random) -> Vec<u8> {
+    let depth = random.between(1, DEPTH_LIMIT + 1);
+    let faulty = bytes_of(random.pick(&FAULTY));
+    let bytes = inside(depth, &faulty, |outer| match random.below(2) {
+        0 => Vec::new(),
+        _ => tree(random, DEPTH_LIMIT + 1 - outer, 60),
+    });
+    if random.once_in(4) {
+        let start = LIST_LIMIT - random.below(bytes.len() + 1);
+        return behind_blob(start, &bytes);
+    }
+    bytes
+}
+
 /// A list of as many like elements as come near the limit.
 fn full_of_one(random: &mut Random) -> Vec<Element> {
     let (element, size) = random.pick(&[(0, 4), (1, 4), (2, 8), (3, 5), (4, 4), (5, 8), (6, 8)]);
@@ -336,6 +450,7 @@ pub fn any(random: &mut Random) -> Vec<u8> {
             let length = random.below(200);
             random.bytes(length)
         }
+        9 | 10 => any_fault(random),
         _ => damaged(random),
     };
     match random.below(8) {

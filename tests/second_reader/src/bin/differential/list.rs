@@ -1,25 +1,28 @@
 //! `cinder_list_decode` against the second reader.
 
 use crate::buffers::{exact, Outcome};
-use crate::lists::{by_definition, compare, lent, result};
+use crate::lists::{by_definition, compare, lent, result, DEPTHS, NUMBERS};
 use crate::report::{count_answer, Answers, Difference, Section};
 use archive::list_decode;
 use second_reader::generate::{buffer_length, list};
-use second_reader::list::{decode, numbers, Decoded, ListError, ROWS_ROOM, STORE_ROOM};
+use second_reader::list::{decode, numbers, Decoded, ListError, LIST_LIMIT, ROWS_ROOM, STORE_ROOM};
 use second_reader::random::Random;
 use second_reader::Error;
 
 pub const SECTION: Section = Section {
     name: "list",
     progress: 10_000,
-    answers: &[Answers { of: "list_decode", numbers: &[0, 20, 21, 22, 23, 24, 25, 26, 27, 28] }],
+    answers: &[
+        Answers { of: "list_decode", numbers: NUMBERS },
+        Answers { of: "list_decode's depths", numbers: DEPTHS },
+    ],
     enumerated,
     random: random_case,
 };
 
 fn defined(bytes: &[u8], rows: &mut [u8], store: &mut [u8]) -> Result<Decoded, ListError> {
     if rows.len() < ROWS_ROOM || store.len() < STORE_ROOM {
-        return Err(ListError { error: Error::BufferTooSmall, offset: 0 });
+        return Err(ListError::outside(Error::BufferTooSmall, 0));
     }
     by_definition(bytes, rows, store)
 }
@@ -32,7 +35,7 @@ fn check(bytes: Vec<u8>, rows: usize, store: usize, pattern: u64) -> Result<(), 
     let defined =
         Outcome::of(lent(), |[rows, store]| result(numbers(defined(&bytes, rows, store))));
     count_answer("list_decode", defined.answer.error);
-    compare(&bytes, None, pattern, [&defined, &reader, &found])
+    compare("list_decode's depths", &bytes, None, pattern, [&defined, &reader, &found])
 }
 
 fn random_case(random: &mut Random) -> Result<u64, Difference> {
@@ -72,7 +75,7 @@ const WORDS: [u32; 19] = [
 ];
 
 /// A few hundred lists of every shape: buffers of each size, cut at every byte, each
-/// byte changed, each four bytes replaced by a number.
+/// byte changed, each four bytes replaced by a number. Then faults at every depth.
 fn enumerated() -> Result<u64, Difference> {
     let mut random = Random::new(0);
     let mut checks = 0;
@@ -92,6 +95,23 @@ fn enumerated() -> Result<u64, Difference> {
             check(bytes[..length].to_vec(), ROWS_ROOM, STORE_ROOM, checks)?;
             checks += 1;
         }
+    }
+    Ok(checks + depths()?)
+}
+
+/// A fault for every error at every depth; and a list of every kind at every depth, whole and
+/// changed as the others are, each list in it misformed, and moved so that the limit falls on
+/// each of its bytes.
+fn depths() -> Result<u64, Difference> {
+    let elements = list::at_every_depth();
+    let bytes = list::image(&elements);
+    let mut cases = list::faults();
+    cases.extend((0..list::lists_in(&elements)).map(|at| list::misformed_image(&elements, at)));
+    cases.extend((0..=bytes.len()).map(|at| list::behind_blob(LIST_LIMIT - at, &bytes)));
+    let mut checks = whole(&bytes)? + changed(&bytes)?;
+    for case in cases {
+        check(case, ROWS_ROOM, STORE_ROOM, checks)?;
+        checks += 1;
     }
     Ok(checks)
 }

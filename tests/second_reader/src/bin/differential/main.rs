@@ -17,6 +17,7 @@
 ))]
 mod buffers;
 mod crash;
+mod depths;
 #[cfg(feature = "hub")]
 mod hub;
 #[cfg(any(feature = "hub", feature = "setting", feature = "push"))]

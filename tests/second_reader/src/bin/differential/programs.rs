@@ -1,15 +1,17 @@
 //! The programs run, replay, show and line against the second reader: what each prints for an
 //! input. A case is one process.
 
+use crate::depths::{self, Answer};
 use crate::options;
 use crate::report::{count_answer, hex, Answers, Difference, Section, READER};
+use second_reader::depths::OF_BYTES;
 use second_reader::generate::writers::bytes_of;
 use second_reader::generate::{
     catalogue, damage, line as generate_line, list, replay as generate_replay,
     stream as generate_stream, text,
 };
 use second_reader::line::{line_output, LINE_LIMIT};
-use second_reader::list::{DEPTH_LIMIT, LIST_LIMIT};
+use second_reader::list::LIST_LIMIT;
 use second_reader::packet::{LOG, PAYLOAD_LIMIT, PING};
 use second_reader::random::Random;
 use second_reader::replay::{replay_watched, DETACH, PUBLISH, REPLAY_LIMIT};
@@ -24,14 +26,20 @@ use std::process::{Command, Output, Stdio};
 pub const RUN: Section = Section {
     name: "run",
     progress: 500,
-    answers: &[Answers { of: "run", numbers: &[0, 21, 22, 23, 24, 25, 26, 27, 28] }],
+    answers: &[
+        Answers { of: "run", numbers: &[0, 21, 22, 23, 24, 25, 26, 27, 28] },
+        Answers { of: "run's depths", numbers: &OF_BYTES },
+    ],
     enumerated: run_enumerated,
     random: run_case,
 };
 pub const SHOW: Section = Section {
     name: "show",
     progress: 500,
-    answers: &[Answers { of: "show", numbers: &[0, 21, 22, 23, 24, 25, 26, 27, 28, 31] }],
+    answers: &[
+        Answers { of: "show", numbers: &[0, 21, 22, 23, 24, 25, 26, 27, 28, 31] },
+        Answers { of: "show's depths", numbers: &OF_BYTES },
+    ],
     enumerated: show_enumerated,
     random: show_case,
 };
@@ -101,6 +109,7 @@ fn check(program: &'static str, input: Vec<u8>, expected: &str) -> Result<u64, D
     };
     count_lines(program, expected);
     if found == expected {
+        compare_depth(program, &input, &found)?;
         return Ok(expected.lines().count() as u64);
     }
     let at = expected.lines().zip(found.lines()).take_while(|(left, right)| left == right).count();
@@ -115,6 +124,17 @@ fn check(program: &'static str, input: Vec<u8>, expected: &str) -> Result<u64, D
         found: line(&found),
         input: Some(input),
     })
+}
+
+/// Compares the depth in a last line `stop 21 at 112 depth 0` with what is counted from the bytes alone. The
+/// lists before the one at fault stand end to end, so the count goes through them too.
+fn compare_depth(program: &str, input: &[u8], text: &str) -> Result<(), Difference> {
+    let last: Vec<&str> = text.lines().last().unwrap_or_default().split(' ').collect();
+    let ["stop", error, "at", offset, "depth", depth] = last[..] else { return Ok(()) };
+    let [error, offset, depth] = [error, offset, depth].map(|word| word.parse().unwrap());
+    let answer = Answer { bytes: input, front: 0, error, offset, depth };
+    let of = if program == "run" { "run's depths" } else { "show's depths" };
+    depths::compare(of, &answer, || vec![("standard input", hex(input))])
 }
 
 /// Counts the answers in a program's lines; all but errors count as 0.
@@ -218,7 +238,7 @@ fn of_each(
     inputs.into_iter().try_fold(0, |checks, input| Ok(checks + check(input)?))
 }
 
-/// Streams around the longest, and with each error.
+/// Streams around the longest, and with each error at every depth.
 fn streams() -> Vec<Vec<u8>> {
     let empty_list = [0, 1, 0, 0, 0, 0, 0, 0];
     let mut inputs = vec![Vec::new()];
@@ -231,18 +251,8 @@ fn streams() -> Vec<Vec<u8>> {
     for length in 0..=16 {
         inputs.push(empty_list.repeat(2)[..length].to_vec());
     }
-    // One list at fault for each error, 21 to 28, behind an empty one.
-    let faults: [&[u32]; 8] = [
-        &[256, 1],
-        &[512, 0],
-        &[256, u32::MAX],
-        &[257, 0],
-        &[260, 1, 0],
-        &[256, 1, 7],
-        &[256, 1].repeat(DEPTH_LIMIT + 1),
-        &[268, 1, LIST_LIMIT as u32],
-    ];
-    inputs.extend(faults.iter().map(|fault| [&empty_list[..], &bytes_of(fault)].concat()));
+    // A list at fault for each error at every depth, behind an empty one.
+    inputs.extend(list::faults().iter().map(|fault| [&empty_list[..], fault].concat()));
     inputs
 }
 

@@ -1,11 +1,13 @@
 //! `cinder_setting_find` against the second reader.
 
 use crate::buffers::{Outcome, DEFINITION};
+use crate::depths::{self, Answer};
 use crate::lent::Lent;
 use crate::report::{count_answer, hex, Answers, Difference, Section, READER};
 use archive::{setting_find, SettingResult};
 use second_reader::definition::setting as definition;
-use second_reader::generate::list::{image, misformed_image, Element};
+use second_reader::depths::{count, number, numbers as with_depths};
+use second_reader::generate::list::{at_every_depth, faults, image, misformed_image, Element};
 use second_reader::generate::setting::{any, at_depth, entry, nearly, string, Lookup};
 use second_reader::generate::writers::bytes_of;
 use second_reader::generate::TELLING_WORDS;
@@ -15,11 +17,17 @@ use second_reader::random::Random;
 use second_reader::setting::{find, numbers, Found, Refusal};
 use Element::{Blob, Int, List};
 
-/// The errors of a list, and 0 for a value found in it.
+/// The errors of a list, and 0 for a value found in it; and these with their depths.
 const OF_LIST: &[u64] = &[0, 21, 22, 23, 24, 25, 26, 27, 28, 29];
+const DEPTHS: &[u64] = &with_depths::<{ count(OF_LIST) }>(OF_LIST);
 /// By the number of the list that an answer names.
 const NAMES: [&str; 3] =
     ["setting_find of neither", "setting_find of the guest's", "setting_find of the house's"];
+const DEPTH_NAMES: [&str; 3] = [
+    "setting_find's depths of neither",
+    "setting_find's depths of the guest's",
+    "setting_find's depths of the house's",
+];
 
 pub const SECTION: Section = Section {
     name: "setting",
@@ -28,6 +36,9 @@ pub const SECTION: Section = Section {
         Answers { of: NAMES[0], numbers: &[33] },
         Answers { of: NAMES[1], numbers: OF_LIST },
         Answers { of: NAMES[2], numbers: OF_LIST },
+        Answers { of: DEPTH_NAMES[0], numbers: &[number(33, 0)] },
+        Answers { of: DEPTH_NAMES[1], numbers: DEPTHS },
+        Answers { of: DEPTH_NAMES[2], numbers: DEPTHS },
         Answers { of: "setting_find's choice", numbers: Shown::NUMBERS },
     ],
     enumerated,
@@ -35,8 +46,8 @@ pub const SECTION: Section = Section {
 };
 
 fn result(answer: Result<Found, Refusal>) -> SettingResult {
-    let [error, list, offset, length] = numbers(answer);
-    SettingResult { error, list, offset, length }
+    let [error, list, offset, length, depth] = numbers(answer);
+    SettingResult { error, list, offset, length, depth }
 }
 
 /// One lookup; neither its areas nor the bytes about them may change.
@@ -67,6 +78,10 @@ fn check(lookup: &Lookup, lent: Lent, pattern: u64) -> Result<u64, Difference> {
     };
     defined.owed(DEFINITION, &found, names, case)?;
     reader.owed(READER, &found, names, case)?;
+    let SettingResult { error, list, offset, depth, .. } = found.answer;
+    let bytes = [&[][..], guest, house][list as usize];
+    let answer = Answer { bytes, front: 0, error, offset, depth };
+    depths::compare(DEPTH_NAMES[list as usize], &answer, case)?;
     Ok(1)
 }
 
@@ -77,7 +92,7 @@ fn random_case(random: &mut Random) -> Result<u64, Difference> {
 }
 
 fn enumerated() -> Result<u64, Difference> {
-    Ok(shapes()? + changed()? + lengths()? + depths()? + refused()?)
+    Ok(shapes()? + changed()? + lengths()? + deep_entries()? + refused()? + deep_faults()?)
 }
 
 /// Looks up each of the keys in these areas.
@@ -208,7 +223,7 @@ fn of_lengths(key: usize, value: usize) -> Result<u64, Difference> {
 }
 
 /// An entry in lists, to the deepest and one deeper, before and behind one that counts.
-fn depths() -> Result<u64, Difference> {
+fn deep_entries() -> Result<u64, Difference> {
     let mut checks = 0;
     for depth in 2..=DEPTH_LIMIT + 1 {
         let deep = at_depth(entry(b"key", b"deep"), depth);
@@ -250,6 +265,21 @@ fn refused() -> Result<u64, Difference> {
     for guest in &areas {
         for house in &areas {
             checks += each_key(guest, house, &[b"key", b"value", b"", b"key\0"])?;
+        }
+    }
+    Ok(checks)
+}
+
+/// A fault for every error at every depth, in either list and in both; and bytes behind a list
+/// of every depth.
+fn deep_faults() -> Result<u64, Difference> {
+    let good = image(&[entry(b"key", b"value")]);
+    let mut areas = faults();
+    areas.push([&image(&at_every_depth())[..], &good].concat());
+    let mut checks = 0;
+    for area in &areas {
+        for [guest, house] in [[area, &good], [&good, area], [area, area]] {
+            checks += each_key(guest, house, &[b"key"])?;
         }
     }
     Ok(checks)

@@ -2,10 +2,11 @@
 //! whole series of steps from the front.
 
 use crate::buffers::{exact, Outcome};
-use crate::lists::{by_definition, compare, lent, result};
+use crate::lists::{by_definition, compare, lent, result, DEPTHS, NUMBERS};
 use crate::report::{count_answer, Answers, Difference, Section};
 use archive::stream_next;
-use second_reader::generate::{buffer_length, stream as generate};
+use second_reader::depths::number;
+use second_reader::generate::{buffer_length, list, stream as generate};
 use second_reader::list::{ListError, ROWS_ROOM, STORE_ROOM};
 use second_reader::random::Random;
 use second_reader::stream::{next, numbers, Step};
@@ -14,10 +15,17 @@ use second_reader::Error;
 pub const SECTION: Section = Section {
     name: "stream",
     progress: 5_000,
-    answers: &[Answers { of: "stream_next", numbers: &[0, 20, 21, 22, 23, 24, 25, 26, 27, 28] }],
+    answers: &[
+        Answers { of: "stream_next", numbers: NUMBERS },
+        Answers { of: "stream_next's depths", numbers: DEPTHS },
+        Answers { of: "stream_next's depths past the end", numbers: PAST_END },
+    ],
     enumerated,
     random: random_case,
 };
+
+/// 20 and 21 with their depths.
+const PAST_END: &[u64] = &[number(20, 0), number(21, 0)];
 
 /// Steps of one series at most, and how many of them may consume nothing.
 const STEPS: u64 = 40;
@@ -31,11 +39,11 @@ fn defined(
     store: &mut [u8],
 ) -> Result<Step, ListError> {
     if rows.len() < ROWS_ROOM || store.len() < STORE_ROOM {
-        return Err(ListError { error: Error::BufferTooSmall, offset: 0 });
+        return Err(ListError::outside(Error::BufferTooSmall, 0));
     }
     let from = usize::try_from(offset).ok().and_then(|offset| bytes.get(offset..));
     match from {
-        None => Err(ListError { error: Error::ListEnds, offset }),
+        None => Err(ListError::outside(Error::ListEnds, offset)),
         Some([]) => Ok(Step::End),
         Some(alone) => match by_definition(alone, rows, store) {
             Ok(decoded) => Ok(Step::List(decoded)),
@@ -58,7 +66,10 @@ fn check(
     let defined =
         Outcome::of(lent(), |[rows, store]| result(numbers(defined(bytes, offset, rows, store))));
     count_answer("stream_next", defined.answer.error);
-    compare(bytes, Some(offset), pattern, [&defined, &reader, &found])?;
+    let past_end = offset > bytes.len() as u64;
+    let depths_of =
+        if past_end { "stream_next's depths past the end" } else { "stream_next's depths" };
+    compare(depths_of, bytes, Some(offset), pattern, [&defined, &reader, &found])?;
     Ok(defined.answer.consumed)
 }
 
@@ -96,14 +107,20 @@ fn series(random: &mut Random, bytes: &[u8]) -> Result<u64, Difference> {
     Ok(steps)
 }
 
-/// A short stream from every offset, a few past its end and the largest; and the series of
-/// a few hundred streams of every kind.
+/// A short stream from every offset, a few past its end and the largest; the series of a few
+/// hundred streams of every kind; and a list with a fault at every depth behind another.
 fn enumerated() -> Result<u64, Difference> {
     let mut random = Random::new(0);
     let mut checks = 0;
     for _ in 0..400 {
         let bytes = exact(generate::any(&mut random));
         checks += series(&mut random, &bytes)?;
+    }
+    let first = list::image(&list::at_every_depth());
+    for fault in list::faults() {
+        let bytes = exact([&first[..], &fault].concat());
+        check(&bytes, first.len() as u64, (ROWS_ROOM, STORE_ROOM), checks)?;
+        checks += 1;
     }
     for _ in 0..20 {
         let mut stream = generate::lists(&mut random);
