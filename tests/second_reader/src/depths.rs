@@ -1,5 +1,6 @@
 //! The depths that each error of a list can have, so that a run can tell whether its cases show
-//! all of them; and the depth of a refusal counted from the bytes before it, without reading the list.
+//! all of them; and the depth of a refusal counted from the bytes before it, without reading the
+//! list.
 
 use crate::list::DEPTH_LIMIT;
 use crate::Error;

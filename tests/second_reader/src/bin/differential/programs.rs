@@ -126,8 +126,8 @@ fn check(program: &'static str, input: Vec<u8>, expected: &str) -> Result<u64, D
     })
 }
 
-/// Compares the depth in a last line `stop 21 at 112 depth 0` with what is counted from the bytes alone. The
-/// lists before the one at fault stand end to end, so the count goes through them too.
+/// Compares the depth in a last line `stop 21 at 112 depth 0` with what is counted from the bytes
+/// alone. The lists before the one at fault stand end to end, so the count goes through them too.
 fn compare_depth(program: &str, input: &[u8], text: &str) -> Result<(), Difference> {
     let last: Vec<&str> = text.lines().last().unwrap_or_default().split(' ').collect();
     let ["stop", error, "at", offset, "depth", depth] = last[..] else { return Ok(()) };
