@@ -20,8 +20,8 @@ use Rattle.list.proofs.TypedRun.{typed-run}
 use Rattle.list.proofs.Cut.{cut}
 use Rattle.list.proofs.Shallow.{parse-shallow}
 use Rattle.list_check.specs.Check.{accepted, refused, judged}
-use Rattle.list_check.specs.Steps.{toldBy, depthOf, Refuses, closeOf}
-use Rattle.list_check.proofs.Told.{told-depth, refuses-depth, there}
+use Rattle.list_check.specs.Steps.{toldBy, depthOf, closeOf}
+use Rattle.list_check.proofs.Told.{told-depth, there}
 use Rattle.list_check.proofs.Typed.{typed-some}
 use Rattle.list_check.proofs.Mixed.{is-typed, is-mixed, mixed-done}
 
@@ -36,9 +36,6 @@ part-same s end is = go (ltb listLimit (length s)) refl
 -- at most as many lists are open at a refusal as may stand in one another
 pub parse-depth : (s : List ℕ) (bits : ℕ) → toldBy bits ≡ judged (parse listLimit s) → depthOf bits ≤ depthLimit
 parse-depth s bits is = told-depth bits depthLimit (parse listLimit s) is (λ r e. parse-shallow listLimit s r e)
-
-pub front-depth : (s : List ℕ) (bits : ℕ) → Refuses bits (parse listLimit s) → (listLimit < bits) × (depthOf bits ≤ depthLimit)
-front-depth s bits is = refuses-depth bits depthLimit (parse listLimit s) is (λ r e. parse-shallow listLimit s r e)
 
 module _ (s : List ℕ) (short : length s ≤ listLimit) (in₈ : 8 ≤ length s) (code count : ℕ) (w : code ≡ word s 0) (n : count ≡ word s 4) where
   pub front-list : isListCode code ≡ true → judged (parse listLimit s) ≡ judged (listAt depthLimit listLimit s 0 code)

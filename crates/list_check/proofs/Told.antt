@@ -63,11 +63,7 @@ told-depth bits d (good a end) e h = go (ltb listLimit bits) refl e
     go true t q = absurd (let z : _≡_ {A = ℕ} 0 1 = cc in omega arith)
     go false t q = omega (arith, ltb-false listLimit bits t)
 
--- a number that refuses tells it, is above the limit and counts no more lists either
-pub refuses-told : {A : Type 0} (bits : ℕ) (p : Parsed A) → Refuses bits p → toldBy bits ≡ judged p
-refuses-told bits (good a end) h = absurd h
-refuses-told bits (bad r) h = h
-
+-- a number that refuses is above the limit and counts no more lists either
 pub refuses-depth : {A : Type 0} (bits d : ℕ) (p : Parsed A) → Refuses bits p → ((r : Refusal) → p ≡ bad r → r .depth ≤ d) → (listLimit < bits) × (depthOf bits ≤ d)
 refuses-depth bits d (good a end) h f = absurd h
 refuses-depth bits d (bad r) h f = let t = told-refused bits r h in (t .0, omega (arith, t .1, f r refl))

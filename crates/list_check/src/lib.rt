@@ -367,7 +367,7 @@ fn check_list(s: &[u8], at: usize, code: u32, count: u32, depth: usize) -> Judge
 // The fault of a list of which less than its code and its count is there.
 fn front_fault(s: &[u8]) -> Judged
     requires { ⌜ length (now s) < 8 ⌝ }
-    ensures { λ r. ⌜ Refuses r (parse listLimit (now (s .entry))) ⌝ }
+    ensures { λ r. ⌜ toldBy r ≡ judged (parse listLimit (now (s .entry))) ⌝ }
 {
     if s.len() < NUMBER {
         return missing(0, NUMBER);
@@ -437,12 +437,14 @@ pub fn check(s: &[u8]) -> Checked
     answer(check_front(&s[0..end]))
 }
 
-// The list at the front, whose code and count are there. Of the codes that have a way of their own in `check_front` only that of
-// the empty list has one here.
+// The list at the front. Of the codes that have a way of their own in `check_front` only that of the empty list has one here.
 fn check_any(s: &[u8]) -> Judged
-    requires { ⌜ (8 ≤ length (now s)) × (length (now s) ≤ listLimit) ⌝ }
+    requires { ⌜ length (now s) ≤ listLimit ⌝ }
     ensures { λ r. ⌜ toldBy r ≡ judged (parse listLimit (now (s .entry))) ⌝ }
 {
+    if s.len() < 2 * NUMBER {
+        return front_fault(s);
+    }
     let code = u32_at(s, 0);
     let count = u32_at(s, NUMBER);
     let empty = (code == LIST_CODE) & (count == 0);
@@ -459,10 +461,6 @@ fn check_any(s: &[u8]) -> Judged
 pub fn fault(s: &[u8]) -> Refusal
     ensures { λ r. ⌜ refusalOf r ≡ faultOf (whole (now (s .entry))) ⌝ }
 {
-    // Before the bytes are cut at the limit: an area that is too short has nothing to cut.
-    if s.len() < 2 * NUMBER {
-        return refusal_of(front_fault(s));
-    }
     let end = last_end(s.len());
     let j = check_any(&s[0..end]);
     if is_refused(j) {

@@ -5,10 +5,9 @@ use mathlib.Core.Logic.{⊎-elim}
 use native.Mathlib.Omega.{arith}
 use borrow.Author.Tests.{not-true, not-false}
 use Rattle.list.specs.declared.Kind.the-variants.{Int, Blob}
-use Rattle.list.specs.Limits.{listLimit}
-use Rattle.list.specs.Parse.{isListCode, parse}
+use Rattle.list.specs.Parse.{isListCode}
 use Rattle.list.proofs.Codes.{mixed-is-code, typed-is-code}
-use Rattle.list_check.proofs.Told.{told-end, refuses-told}
+use Rattle.list_check.proofs.Told.{told-end}
 use Rattle.list_check.proofs.Front.{front-list, front-other, front-empty, front-typed, front-ints}
 use borrow.Author.Needs.{needs}
 use Rattle.list_check.proofs.check_front.Statement.{statement}
@@ -83,7 +82,7 @@ check-front-spec =
     (tie.spec
     (λ c. search needs)
     (λ c κs. search needs)
-    (λ c. refuses-told _ (parse listLimit (c .before .before .before .args .s .now)) (c .front-fault .ensures))
+    (λ c. search needs)
     (λ c κs. search needs)
     (λ c κs. search needs)
     (λ c. search needs)
