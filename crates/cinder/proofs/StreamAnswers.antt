@@ -1,19 +1,16 @@
 -- What every series of stream calls over a run of lists answers; that the end is told apart from every other answer; and the depth of a refusal.
 use Prim.Native.Nat.{ℕ, _+_, _<_}
 use mathlib.Core.Path.{_≡_, refl, ap, _∙_}
-use mathlib.Core.Bool.{Bool, true, false}
+use mathlib.Core.Bool.{true}
 use mathlib.Core.List.{List, [], _∷_, _++_, map}
 use native.Mathlib.Omega.{arith}
 use native.Mathlib.Nat.{add-zero}
-use lib.Dec.{eqb, ltb}
 use lib.ListN.{length, drop}
-use borrow.Author.Tests.{eqb-true, eqb-false, ltb-true, ltb-false}
 use Rattle.wire.specs.Number.{Bytes}
 use Rattle.list.specs.Limits.{listLimit}
 use Rattle.list.specs.Tree.{Elements}
 use Rattle.list.specs.Rows.{listStore, rowCount}
 use Rattle.list.specs.Refusal.{refusal}
-use Rattle.list.specs.Parse.{Parsed, good, bad, parse}
 use Rattle.list.specs.Open.{openAt}
 use Rattle.list.proofs.Items.{bytes-drop}
 use Rattle.list.proofs.Sound.{sound, within}

@@ -14,7 +14,7 @@ use Rattle.list.specs.Tree.{Elements}
 use Rattle.list.specs.Bytes.{listBytes}
 use Rattle.list.specs.Legal.{Legal}
 use Rattle.list.specs.Parse.{Parsed, good, bad, andThen, parse}
-use Rattle.list.specs.Open.{openAt, depthAt}
+use Rattle.list.specs.Open.{depthAt}
 use Rattle.list.proofs.Complete.{complete}
 use Rattle.list.proofs.Depth.{depth-open, closed-behind}
 use Rattle.list.proofs.Sound.{SaneRefusal, sound, within, reaches}
