@@ -1,4 +1,6 @@
 // An ACK makes a device's row in a slot; a device that leaves empties its slot.
+#![tactic(auto)]
+
 ghost use Rattle.std.specs.Prelude.{◌≡◌};
 ghost use Rattle.slot.specs.Row.{head_of};
 ghost use Rattle.slot.specs.declared.Slot.{Slot};

@@ -1,6 +1,8 @@
 // Lines of output.
-use libc::STDOUT_FILENO;
 use list::{NUMBER, ROW_NUMBERS};
+
+// The numbers of the standard streams.
+const STDOUT_FILENO: i32 = 1;
 
 pub fn text(s: &[u8]) {
     io::write_all(STDOUT_FILENO, s);

@@ -1,4 +1,6 @@
 // The catalogue: which device types there are, and the kind and direction of each of their parameters.
+#![tactic(auto)]
+
 ghost use Rattle.std.specs.Prelude.{ℕ, ◌+◌, ◌*◌, ◌≤◌, ◌<◌, ◌≡◌, cond, ltb, length, get_or};
 ghost use Rattle.wire.specs.Every.{every};
 ghost use Rattle.catalogue.specs.Format.{max_types, max_parameters, type_legal, parameters_before, parameter_byte, parameter_legal, described, legal};

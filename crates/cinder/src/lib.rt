@@ -1,4 +1,6 @@
 // The calls that firmware makes from C: the hub's, and the display's. include/cinder.h declares them.
+#![tactic(auto)]
+
 mod hub_call;
 mod line_call;
 mod list_call;

@@ -1,5 +1,7 @@
 // The hub: what its users call, in one place. A packet is received with its socket, a device detaches, one parameter is read, the
 // table is published. The table is lent as bytes; 11, 9 and 10 are judged here, and nothing changes where one of them is given.
+#![tactic(auto)]
+
 mod inbound;
 
 ghost use Rattle.std.specs.Prelude.{◌≡◌};

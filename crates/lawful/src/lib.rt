@@ -1,4 +1,6 @@
 // Whether bytes are a lawful table under a catalogue.
+#![tactic(auto)]
+
 ghost use Rattle.std.specs.Prelude.{ℕ, ◌+◌, ◌*◌, ◌≤◌, ◌<◌, ◌≡◌, false, ltb, length, get_or};
 ghost use Rattle.wire.specs.Every.{every};
 ghost use Rattle.catalogue.specs.Format.{described};

@@ -1,4 +1,6 @@
 // Reads what a socket's line brought from standard input and prints what is found there: a text line for each finding, and one for the end.
+#![tactic(auto)]
+
 ghost use Rattle.std.specs.Prelude.{◌+◌, ◌-◌, ◌≤◌, ◌≡◌, length, take};
 ghost use Rattle.io.specs.Counts.{IsPrefixLen};
 ghost use Rattle.packet.specs.Packet.{length_byte, packet_error};
@@ -10,10 +12,13 @@ ghost use Rattle.line.specs.Limits.{longest_line, text_room};
 ghost use Rattle.line.specs.Held.{packet_in, Holds};
 ghost use Rattle.line.specs.Text.{type_of, packet_line, refused_pieces, end_pieces, line_text, printed};
 
-use libc::{STDIN_FILENO, STDOUT_FILENO};
 use packet::{Answer, PACKET_ROOM};
 use packet_line::{FRESH, Finding, LINE_ROOM, OPENED, SKIPPING};
 use report::INPUT_LIMIT;
+
+// The numbers of the standard streams.
+const STDIN_FILENO: i32 = 0;
+const STDOUT_FILENO: i32 = 1;
 
 // The longest text line: three labels, 23 bytes together, three numbers of up to 20 digits and a newline.
 const LONGEST_LINE: usize = 23 + 3 * 20 + 1;

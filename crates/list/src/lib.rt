@@ -1,4 +1,6 @@
 // What a list is: the kinds of its elements, the limits of 01, its rows, and the refusal of list reading.
+#![tactic(auto)]
+
 ghost use Rattle.std.specs.Prelude.{◌≡◌, [], ◌∷◌, get_or};
 ghost use Rattle.list.specs.Kind.{kind_of, size_of};
 ghost use Rattle.list.specs.Bytes.{common};

@@ -1,4 +1,6 @@
 // Judges the list at the front of a slice: where it ends, or the first fault from the front.
+#![tactic(auto)]
+
 ghost use Rattle.std.specs.Prelude.{◌≡◌, true, ◌+◌, ◌≤◌, ◌<◌, ◌^◌, min, ltb, length};
 ghost use Rattle.list.specs.Limits.{list_limit, depth_limit};
 ghost use Rattle.list.specs.Kind.{size_of};

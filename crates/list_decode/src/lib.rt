@@ -1,4 +1,6 @@
 // Reading one list: judged whole, then its rows and its store bytes are written.
+#![tactic(auto)]
+
 mod fill;
 mod put;
 mod run;

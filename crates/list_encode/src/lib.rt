@@ -1,4 +1,6 @@
 // Writing one list from its rows and its byte store. Everything is judged before the buffer is touched.
+#![tactic(auto)]
+
 mod emit;
 
 ghost use Rattle.std.specs.Prelude.{◌≡◌};

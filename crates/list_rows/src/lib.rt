@@ -1,4 +1,6 @@
 // Judging the rows and the store of a list before it is written, and what a writer looks up row by row.
+#![tactic(auto)]
+
 mod depth;
 mod look;
 mod row;

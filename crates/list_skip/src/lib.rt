@@ -1,4 +1,6 @@
 // Stepping over elements of a list that was judged: where the next one begins. Nothing is judged again and nothing is written.
+#![tactic(auto)]
+
 ghost use Rattle.std.specs.Prelude.{◌≡◌, ◌-◌, ◌≤◌, ◌<◌, ◌^◌, length};
 ghost use Rattle.list.specs.Limits.{list_limit};
 ghost use Rattle.list.specs.Kind.{kind_of, list_code};

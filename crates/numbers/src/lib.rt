@@ -1,4 +1,6 @@
 // Numbers as bytes, low byte first. Every function answers for every input.
+#![tactic(auto)]
+
 ghost use Rattle.std.specs.Prelude.{◌+◌, ◌*◌, ◌≡◌, ◌++◌};
 ghost use Rattle.wire.specs.Number.{le_bytes, number_at};
 ghost use Rattle.wire.specs.Area.{put_at};

@@ -1,12 +1,16 @@
 // A program's output, collected in a buffer. A piece that does not fit is left out whole; `flush_if_full` keeps room for any line.
+#![tactic(auto)]
+
 ghost use Rattle.std.specs.Prelude.{◌+◌, ◌<◌, ◌≡◌, [], ◌∷◌, leb, length};
 ghost use Rattle.io.specs.Digits.{hex_digit_ascii};
 ghost use Rattle.digits.specs.Decimal.{decimal};
 ghost use Rattle.output.specs.Digits.{hex_byte, hex_word};
 ghost use Rattle.output.specs.Output.{output as Output·output, put as Output·put, puts, put_bytes, put_front, newline, handed, list_line_room, kept};
 
-use libc::STDOUT_FILENO;
 use list::LIST_LIMIT;
+
+// The numbers of the standard streams.
+const STDOUT_FILENO: i32 = 1;
 
 // The words and numbers of a line beside its list.
 const WORD_ROOM: usize = 256;

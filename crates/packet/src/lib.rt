@@ -1,4 +1,6 @@
 // Packets on a socket: 00, a length byte, a message in COBS blocks. Every call answers for every input.
+#![tactic(auto)]
+
 mod cobs;
 mod message;
 mod read;

@@ -1,4 +1,6 @@
 // Packet writing: the blocks go straight into the buffer, from the back, so that each code is known when its place is reached.
+#![tactic(auto)]
+
 ghost use Rattle.std.specs.Prelude.{suc, ◌+◌, ◌-◌, ◌≤◌, ◌<◌, ◌≡◌, [], ◌∷◌, ◌++◌, length, drop};
 ghost use Rattle.packet.specs.Message.{xor_from};
 ghost use Rattle.packet.specs.Cobs.{code_or, gap_from, gap_before, stuffed};

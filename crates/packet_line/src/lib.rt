@@ -1,4 +1,6 @@
 // The packets of a socket's line, found as its bytes arrive. Every call answers for every input.
+#![tactic(auto)]
+
 mod part;
 mod phases;
 mod state;

@@ -1,4 +1,6 @@
 // Writes the table as one list, straight into the buffer.
+#![tactic(auto)]
+
 mod parameter;
 mod rows;
 

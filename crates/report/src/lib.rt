@@ -1,4 +1,6 @@
 // What the programs that print a stream of lists share: the limit of their input, and the lines that they end with.
+#![tactic(auto)]
+
 ghost use Rattle.std.specs.Prelude.{◌≡◌, ltb, length};
 ghost use Rattle.list.specs.Refusal.{refusal_of};
 ghost use Rattle.output.specs.Output.{output as Output·output, put, puts};

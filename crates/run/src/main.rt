@@ -1,4 +1,6 @@
 // Reads a stream of lists from standard input and prints a line for each list, and one for what stands behind them.
+#![tactic(auto)]
+
 ghost use Rattle.std.specs.Prelude.{◌+◌, ◌*◌, ◌≤◌, ◌≡◌, length, take};
 ghost use Rattle.io.specs.Counts.{IsPrefixLen};
 ghost use Rattle.list.specs.Limits.{row_room, store_room};
@@ -8,10 +10,13 @@ ghost use Rattle.report.specs.Text.{text_of, program_text};
 ghost use Rattle.run.specs.Limits.{longest_line, text_room};
 ghost use Rattle.run.specs.Text.{list_line, line_of};
 
-use libc::{STDIN_FILENO, STDOUT_FILENO};
 use list::{NUMBER, ROW_BYTES, STORE_ROOM};
 use report::INPUT_LIMIT;
 use stream::Step;
+
+// The numbers of the standard streams.
+const STDIN_FILENO: i32 = 0;
+const STDOUT_FILENO: i32 = 1;
 
 // The longest line: three labels, 18 bytes together, three numbers of up to 20 digits and a newline.
 const LONGEST_LINE: usize = 18 + 3 * 20 + 1;

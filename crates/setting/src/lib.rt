@@ -1,4 +1,6 @@
 // Looking up a key in a guest's settings list and the house's.
+#![tactic(auto)]
+
 mod entry;
 mod same;
 

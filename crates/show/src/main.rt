@@ -1,4 +1,6 @@
 // Reads a stream of lists from standard input and prints the text of each list, and one line for what stands behind them.
+#![tactic(auto)]
+
 ghost use Rattle.std.specs.Prelude.{◌+◌, ◌*◌, ◌≤◌, ◌≡◌, length, take};
 ghost use Rattle.io.specs.Counts.{IsPrefixLen};
 ghost use Rattle.list.specs.Limits.{list_limit, row_room, store_room};
@@ -13,12 +15,15 @@ ghost use Rattle.show.specs.Limits.{lines_room};
 ghost use Rattle.show.specs.Text.{text_line, line_of, shown};
 ghost use Rattle.show.specs.Held.{Held};
 
-use libc::{STDIN_FILENO, STDOUT_FILENO};
 use list::{ROW, ROW_BYTES, STORE_ROOM};
 use list_encode::Encoded;
 use report::INPUT_LIMIT;
 use stream::Step;
 use text::TEXT_ROOM;
+
+// The numbers of the standard streams.
+const STDIN_FILENO: i32 = 0;
+const STDOUT_FILENO: i32 = 1;
 
 // A line has at most four characters for each byte of its list; behind the lines, the room that text writing asks for.
 const LINES_ROOM: usize = 4 * INPUT_LIMIT + TEXT_ROOM;

@@ -1,4 +1,6 @@
 // A row of the table: the struct by which it is judged, made and read, and its bytes in a table that is lent.
+#![tactic(auto)]
+
 mod read;
 mod write;
 

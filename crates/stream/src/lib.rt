@@ -1,4 +1,6 @@
 // Reading a stream of lists, one list at a time, from an offset that the caller names.
+#![tactic(auto)]
+
 ghost use Rattle.std.specs.Prelude.{◌≡◌};
 ghost use Rattle.list_decode.specs.Decode.{outcome};
 ghost use Rattle.stream.specs.Step.{found_of, step_of};

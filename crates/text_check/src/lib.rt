@@ -1,4 +1,6 @@
 // Judging a text whole, in one pass and without recursion: whether it is the text of a list, how deep that is and how long.
+#![tactic(auto)]
+
 mod span;
 mod tally;
 mod token;

@@ -1,4 +1,6 @@
 // Reading one list from its text: judged whole, then its rows and its store bytes are written.
+#![tactic(auto)]
+
 mod element;
 mod fill;
 mod known;

@@ -1,4 +1,6 @@
 // Writing one list as text from its rows and its byte store. Everything is judged before the text area is touched.
+#![tactic(auto)]
+
 mod digit;
 mod emit;
 mod form;

@@ -1,4 +1,6 @@
 // Reading what a list's text is made of: numbers, vocabs, a blob's bytes and a string's escapes, each at an offset.
+#![tactic(auto)]
+
 mod blob;
 mod digit;
 mod float;

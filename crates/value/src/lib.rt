@@ -1,4 +1,6 @@
 // A held value: what its 32 bits mean by the parameter's kind, a short whole number in 32 bits, and a single float as a double.
+#![tactic(auto)]
+
 ghost use Rattle.std.specs.Prelude.{◌≡◌};
 ghost use Rattle.value.specs.Meaning.{int_of, int_bits, extended, float_bits, flag_bits, meaning_of, meant, widened};
 

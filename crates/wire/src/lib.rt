@@ -1,4 +1,6 @@
 // One byte, bytes that are copied, and the search for a zero. Every public function answers for every input.
+#![tactic(auto)]
+
 ghost use Rattle.std.specs.Prelude.{◌≡◌, ◌*◌, ◌≤◌, ◌<◌, false, length, get_or, take, replicate};
 ghost use Rattle.wire.specs.Area.{block_size, put_at, replaced};
 ghost use Rattle.wire.specs.Zero.{has_zero, zero_at, all_zero};
