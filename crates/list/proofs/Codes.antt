@@ -1,6 +1,6 @@
 -- Laws of codes: a kind and its code determine each other, and the code of a list tells what its elements are.
 use Prim.Native.Nat.{ℕ, ◌-◌, ◌^◌, ◌<◌}
-use mathlib.Core.Path.{◌≡◌, refl, sym, ap, ◌∙◌}
+use mathlib.Core.Path.{◌≡◌, refl, sym, ap, ◌∙◌, subst}
 use mathlib.Core.Bool.{Bool, true, false, cond}
 use mathlib.Core.Logic.{◌⊎◌, inl, inr, ⊎_elim}
 use native.Mathlib.Omega.{arith}
@@ -126,7 +126,7 @@ common-from k (list inner es) = inr (common-mixed es)
 common-from k (value v es) =
     ⊎_elim
     (λ w. ⊎_elim
-    (λ x. inl (rw (w.1, w.0) x.0, (sym w.0, rw w.0 x.1)))
+    (λ x. inl (rw (w.1, w.0) x.0, (sym w.0, subst (λ y. AllKind y es) (sym w.0) x.1)))
     (λ x. inr (rw w.1 x))
     (common-from (kind v) es))
     (λ w. inr (rw w (common-mixed es)))
