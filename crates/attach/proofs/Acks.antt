@@ -25,8 +25,8 @@ use Rattle.table.specs.declared.Place.TheVariants.{At, Nowhere}
 use Rattle.table.proofs.Tests.{never}
 use Rattle.table.proofs.Searches.{none_free}
 use Rattle.table.proofs.Changes.{row_left, FitsChange, changed-others, changed-denied, changed-bytes, changed-accepted, denied-exactly, denied-refusal, leaves-accepted}
-use Rattle.attach.specs.Attach.{device_in, year_in, uid_in, ack_row, has_slot, acked, Elsewhere, uid_free, or_free, place_for, ack_change, assigned}
-use Rattle.attach.proofs.Facts.{is_some, uid-elsewhere, no_row, all-taken, has-place, slot-index, place-within, not-its-place}
+use Rattle.attach.specs.Attach.{device_in, year_in, uid_in, ack_row, has_slot, acked, uid_free, or_free, place_for, ack_change, assigned}
+use Rattle.attach.proofs.Facts.{is_some, Elsewhere, uid-elsewhere, no_row, all-taken, has-place, slot-index, place-within, not-its-place}
 
 -- ACK's payload: type, year and UID
 abbrev pub ack_size : ℕ
@@ -43,8 +43,7 @@ abbrev pub denied_number : Change → ℕ
 denied_number (becomes row) = 0
 denied_number (denied number) = number
 
--- there is no slot for an ACK exactly where the socket has none and none is free
-pub has-none : (own : Option Slot) (a : Bool) → (has_slot own a ≡ false) ↔ ((own ≡ none) × (a ≡ false))
+has-none : (own : Option Slot) (a : Bool) → (has_slot own a ≡ false) ↔ ((own ≡ none) × (a ≡ false))
 has-none (some own) a = (λ h. never h, λ h. never (ap is_some h.0))
 has-none none a = (λ h. (refl, h), λ h. h.1)
 

@@ -17,7 +17,15 @@ use Rattle.table.specs.declared.Place.{Place}
 use Rattle.table.specs.declared.Place.TheVariants.{At, Nowhere}
 use Rattle.table.proofs.Tests.{never}
 use Rattle.table.proofs.Searches.{holds_parts, place_found, place_none, free-found, free-none, none_free}
-use Rattle.attach.specs.Attach.{has_slot, uid_elsewhere, Elsewhere, uid_free, or_free, place_for}
+use Rattle.attach.specs.Attach.{has_slot, uid_elsewhere, uid_free, or_free, place_for}
+
+-- a device on another socket has the UID
+pub record Elsewhere (slots : ℕ) (t : List ℕ) (socket uid : ℕ) : Type 0 where
+  pub index : ℕ
+  pub within : index < slots
+  pub taken : (slot_at t index).taken ≡ true
+  pub other : (slot_at t index).socket ≢ socket
+  pub same : (slot_at t index).uid ≡ uid
 
 elsewhere-parts :
     (socket uid : ℕ) (s : Slot) → uid_elsewhere socket uid s ≡ true →

@@ -1,5 +1,5 @@
 -- ACK and leaving (01, "The table"), with the refusals of "Refusal numbers": each is said of the socket's row, and the table follows.
-use Rattle.std.specs.Prelude.{ℕ, ◌<◌, ◌≡◌, Bool, true, ◌&&◌, not, cond, List, ◌≢◌, eqb, get_or}
+use Rattle.std.specs.Prelude.{ℕ, Bool, true, ◌&&◌, not, cond, List, eqb, get_or}
 use Rattle.std.proofs.Math.Option.{Option, none, some}
 use Rattle.wire.specs.Every.{every}
 use Rattle.wire.specs.Number.{number_at}
@@ -45,14 +45,6 @@ acked c socket own payload is_uid_free any_free =
 -- 14, "UID seated at another socket": a taken slot of another socket has it
 unfoldable pub uid_elsewhere : ℕ → ℕ → Slot → Bool
 uid_elsewhere socket uid s = s.taken && (not (eqb s.socket socket) && eqb s.uid uid)
-
--- the same as a fact: such a slot is there
-pub record Elsewhere (slots : ℕ) (t : List ℕ) (socket uid : ℕ) : Type 0 where
-  pub index : ℕ
-  pub within : index < slots
-  pub taken : (slot_at t index).taken ≡ true
-  pub other : (slot_at t index).socket ≢ socket
-  pub same : (slot_at t index).uid ≡ uid
 
 -- no other socket's device has the UID
 unfoldable pub uid_free : ℕ → List ℕ → ℕ → ℕ → Bool

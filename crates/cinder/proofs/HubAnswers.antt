@@ -13,12 +13,11 @@ use Rattle.publish.specs.Outcome.{Publishing, result_of}
 use Rattle.publish.specs.declared.Published.{Published}
 use Rattle.hub.specs.Receive.{Receiving, outcome_of, received_of}
 use Rattle.hub.specs.Calls.{detached, read_of, publish_of}
-use Rattle.hub.specs.Events.{verdict_error}
 use Rattle.hub.specs.declared.Receipt.{Receipt}
 use Rattle.cinder.specs.declared.packet_call.PacketResult.{PacketResult}
 use Rattle.cinder.specs.declared.write_call.WriteResult.{WriteResult}
 use Rattle.cinder.specs.declared.hub_call.ValueResult.{ValueResult}
-use Rattle.cinder.specs.HubCall.{TableOutcome, receipt_numbers, publish_numbers, numbers_of, value_numbers, receive_call, detach_call, publish_call, read_call}
+use Rattle.cinder.specs.HubCall.{TableOutcome, receipt_numbers, verdict_number, publish_numbers, numbers_of, value_numbers, receive_call, detach_call, publish_call, read_call}
 use Rattle.cinder.proofs.WriteAnswers.{beside}
 
 -- an answer beside the table
@@ -34,12 +33,12 @@ receipt-told c t socket s after a x r is e h =
     ∙ ap (λ (w : Receiving). on_table (receipt_numbers w.outcome) w.table) h
 
 pub verdict-told :
-    (c t : List ℕ) (socket : ℕ) (after : List ℕ) (a x : Answer) (r : ℕ) → a ≡ x → r ≡ verdict_error (verdict_of x)
+    (c t : List ℕ) (socket : ℕ) (after : List ℕ) (a x : Answer) (r : ℕ) → a ≡ x → r ≡ verdict_number (verdict_of x)
     → record { verdict = verdict_of a; table = after } ≡ detached c t socket → on_table r after ≡ detach_call c t socket
 unfolding detach_call
 verdict-told c t socket after a x r is e h =
-    ap (λ (z : ℕ). on_table z after) (e ∙ ap (λ (z : Answer). verdict_error (verdict_of z)) (sym is))
-    ∙ ap (λ (w : Effect). on_table (verdict_error w.verdict) w.table) h
+    ap (λ (z : ℕ). on_table z after) (e ∙ ap (λ (z : Answer). verdict_number (verdict_of z)) (sym is))
+    ∙ ap (λ (w : Effect). on_table (verdict_number w.verdict) w.table) h
 
 pub published-told :
     (c t area area' : List ℕ) (a x : Published) (r : WriteResult) → a ≡ x → r ≡ publish_numbers (result_of x)

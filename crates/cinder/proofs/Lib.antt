@@ -5,4 +5,3 @@ pub mod WriteAnswers
 pub mod PacketTrips
 pub mod HubAnswers
 pub mod SettingAnswers
-pub mod Isolation

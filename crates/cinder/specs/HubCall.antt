@@ -1,15 +1,13 @@
 -- The hub's calls as firmware makes them, with numbers and byte areas; the table is one of the areas.
-use Rattle.std.specs.Prelude.{ℕ, List, []}
+use Rattle.std.specs.Prelude.{ℕ, List}
 use Rattle.value.specs.Meaning.{Meaning, whole, single, nan, flag, int_bits, float_bits, flag_bits}
+use Rattle.table.specs.Change.{Verdict, accepted, refused}
 use Rattle.parameters.specs.Read.{Finding, held, absent}
-use Rattle.parameters.specs.Read as found
-use Rattle.publish.specs.Outcome as posted
-use Rattle.hub.specs.Receive as outcome
+use Rattle.parameters.specs.Read as read
+use Rattle.publish.specs.Outcome as publish
+use Rattle.hub.specs.Receive as receive
 use Rattle.hub.specs.Receive.{Outcome, received_of}
 use Rattle.hub.specs.Calls.{detached, read_of, publish_of}
-use Rattle.hub.specs.Events.{Event, receive, detach, read, publish, verdict_error}
-use Rattle.isolation.specs.Isolation.{Interface}
-use Rattle.cinder.specs.LineCall.{feed_call}
 use Rattle.cinder.specs.WriteCall.{WriteOutcome, wrote, not_written}
 use Rattle.cinder.specs.declared.write_call.WriteResult.{WriteResult}
 use Rattle.cinder.specs.declared.packet_call.PacketResult.{PacketResult}
@@ -22,22 +20,27 @@ pub record TableOutcome (A : Type 0) : Type 0 where
 
 -- "an accepted one answers the bytes it took"; on a refusal the number, and nothing is taken
 abbrev pub receipt_numbers : Outcome → PacketResult
-receipt_numbers (outcome.accepted consumed) = record { error = 0; consumed = consumed }
-receipt_numbers (outcome.refused number) = record { error = number; consumed = 0 }
+receipt_numbers (receive.accepted consumed) = record { error = 0; consumed = consumed }
+receipt_numbers (receive.refused number) = record { error = number; consumed = 0 }
 
 -- handing in
 unfoldable pub receive_call : List ℕ → List ℕ → ℕ → List ℕ → TableOutcome PacketResult
 receive_call c t socket s =
     record { answer = receipt_numbers (received_of c t socket s).outcome; table = (received_of c t socket s).table }
 
+-- the number of a refusal, 0 for none
+abbrev pub verdict_number : Verdict → ℕ
+verdict_number accepted = 0
+verdict_number (refused number) = number
+
 -- leaving
 unfoldable pub detach_call : List ℕ → List ℕ → ℕ → TableOutcome ℕ
-detach_call c t socket = record { answer = verdict_error (detached c t socket).verdict; table = (detached c t socket).table }
+detach_call c t socket = record { answer = verdict_number (detached c t socket).verdict; table = (detached c t socket).table }
 
 -- what posting answers in numbers
-abbrev pub publish_numbers : posted.Result → WriteResult
-publish_numbers (posted.written count) = wrote count
-publish_numbers (posted.refused number) = not_written number
+abbrev pub publish_numbers : publish.Result → WriteResult
+publish_numbers (publish.written count) = wrote count
+publish_numbers (publish.refused number) = not_written number
 
 -- posting
 unfoldable pub publish_call : List ℕ → List ℕ → List ℕ → WriteOutcome
@@ -54,55 +57,8 @@ numbers_of (flag set) = record { error = 0; kind = 3; bits = flag_bits set }
 abbrev pub value_numbers : Finding → ValueResult
 value_numbers (held v) = numbers_of v
 value_numbers absent = record { error = 0; kind = 0; bits = 0 }
-value_numbers (found.refused number) = record { error = number; kind = 0; bits = 0 }
+value_numbers (read.refused number) = record { error = number; kind = 0; bits = 0 }
 
 -- reading one parameter
 unfoldable pub read_call : List ℕ → List ℕ → ℕ → ℕ → ValueResult
 read_call c t socket index = value_numbers (read_of c t socket index)
-
--- a series of these calls (ticket g): what each answers, numbers, and for posting the list area beside them
-pub data CallAnswer : Type 0 where
-  receipt : (result : PacketResult) → CallAnswer
-  departure : (error : ℕ) → CallAnswer
-  reading : (result : ValueResult) → CallAnswer
-  posting : (outcome : WriteOutcome) → CallAnswer
-
--- the call that an event is
-abbrev pub answer_call : List ℕ → List ℕ → Event → CallAnswer
-answer_call c t (receive socket bytes) = receipt (receive_call c t socket bytes).answer
-answer_call c t (detach socket) = departure (detach_call c t socket).answer
-answer_call c t (read socket index) = reading (read_call c t socket index)
-answer_call c t (publish area) = posting (publish_call c t area)
-
--- the table afterwards; reading and posting are lent it to read
-abbrev pub after_call : List ℕ → List ℕ → Event → List ℕ
-after_call c t (receive socket bytes) = (receive_call c t socket bytes).table
-after_call c t (detach socket) = (detach_call c t socket).table
-after_call c t (read socket index) = t
-after_call c t (publish area) = t
-
--- the number of a refusal, 0 for none
-abbrev pub error_in : CallAnswer → ℕ
-error_in (receipt r) = r.error
-error_in (departure error) = error
-error_in (reading r) = r.error
-error_in (posting o) = o.answer.error
-
--- the list area that a post leaves
-abbrev pub area_in : CallAnswer → List ℕ
-area_in (receipt r) = []
-area_in (departure error) = []
-area_in (reading r) = []
-area_in (posting o) = o.area
-
--- the calls from C as an interface: ticket g speaks of it in the same words
-abbrev pub firmware : Interface CallAnswer
-firmware =
-    record {
-      answer = answer_call;
-      after = after_call;
-      error = error_in;
-      buffer = area_in;
-      receipt = λ o. receipt (receipt_numbers o);
-      push = feed_call;
-    }

@@ -3,7 +3,7 @@
 use Prim.Native.Nat.{ℕ, ◌<◌}
 use mathlib.Core.Path.{◌≡◌, refl, sym, ap, ◌∙◌}
 use mathlib.Core.Bool.{Bool, true, false, cond}
-use mathlib.Core.List.{List}
+use mathlib.Core.List.{List, []}
 use mathlib.Core.Option.{Option, none, some}
 use native.Mathlib.Omega.{arith}
 use lib.Dec.{eqb}
@@ -36,10 +36,15 @@ use Rattle.parameters.proofs.Laws.{change-fits, data-lawful}
 use Rattle.hub.specs.Receive.{Receiving, refusing, accepting, answered_by, answering, payload_in, by_type, by_judgement, received_of}
 use Rattle.hub.specs.Receive as receive
 use Rattle.hub.specs.Calls.{detached, read_of}
-use Rattle.hub.specs.ByRow.{RowReceiving, is_ack_by, payload_by, row_answering, row_by_type, row_by_judgement, row_received}
+use Rattle.hub.specs.ByRow.{RowReceiving, row_answering, row_by_type, row_by_judgement, row_received}
 use Rattle.hub.proofs.PayloadBytes.{payload-bytes}
 
 -- WHAT IS SAID
+-- the payload of the packet that was read, none where there is no packet
+abbrev pub payload_by : Judgement → List ℕ → List ℕ
+payload_by (packet.accepted type n consumed) message = payload_in message n
+payload_by (packet.refused number) message = []
+
 -- no device on another socket has the UID of the ACK that was read
 abbrev pub is_uid_free : List ℕ → ℕ → Reading → Bool
 is_uid_free t socket r = uid_free slot_count t socket (uid_in (payload_by r.judgement r.message))
@@ -47,6 +52,11 @@ is_uid_free t socket r = uid_free slot_count t socket (uid_in (payload_by r.judg
 -- a slot is free
 abbrev pub is_any_free : List ℕ → Bool
 is_any_free t = is_slot (free_of slot_count t)
+
+-- the packet that was read is an ACK
+abbrev pub is_ack_by : Judgement → Bool
+is_ack_by (packet.accepted type n consumed) = eqb type ACK
+is_ack_by (packet.refused number) = false
 
 -- an answer beside the socket's row afterwards
 abbrev pub row_after : ℕ → Receiving → RowReceiving
@@ -213,8 +223,8 @@ module _ (c t : List ℕ) (socket : ℕ) (a : admission slot_count socket_count 
   unfolding read_of
   read-by-row index = rw a
 
--- LAW: a packet that is no ACK is judged without the two facts
-pub no-ack :
+-- a packet that is no ACK is judged without the two facts
+no-ack :
     (c : List ℕ) (socket : ℕ) (own : Option Slot) (j : Judgement) (message : List ℕ) (f g x y : Bool) → is_ack_by j ≡ false →
     row_by_judgement c socket own j message f x ≡ row_by_judgement c socket own j message g y
 unfolding row_by_type

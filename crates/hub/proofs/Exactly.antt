@@ -26,8 +26,8 @@ use Rattle.table.proofs.Tests.{never}
 use Rattle.table.proofs.Changes.{is_accepted, number_of}
 use Rattle.lawful.specs.Lawful.{lawful, admission}
 use Rattle.lawful.proofs.Admission as adm
-use Rattle.attach.specs.Attach.{device_in, uid_in, ack_row, Elsewhere, uid_free, or_free, place_for, assigned, leaving, left}
-use Rattle.attach.proofs.Facts.{is_some, no_row}
+use Rattle.attach.specs.Attach.{device_in, uid_in, ack_row, uid_free, or_free, place_for, assigned, leaving, left}
+use Rattle.attach.proofs.Facts.{Elsewhere, is_some, no_row}
 use Rattle.attach.proofs.Acks.{assigned-12, assigned-14, assigned-13, assigned-accepted}
 use Rattle.attach.proofs.Leaving as leave
 use Rattle.attach.proofs.Keeps.{left-gone}
@@ -44,7 +44,6 @@ use Rattle.publish.specs.Outcome.{Publishing, written_of}
 use Rattle.publish.specs.Outcome as publish
 use Rattle.hub.specs.Receive.{accepted, refused, Receiving, accepting, answered_by, answering, by_reading, received_if, received_of}
 use Rattle.hub.specs.Calls.{detached, read_if, read_of, publish_of}
-use Rattle.hub.specs.Events.{finding_error, result_error}
 use Rattle.hub.proofs.Keeps.{answered-refused, answered-accepted, detached-lawful}
 use Rattle.hub.proofs.Packets.{error-received, ack-received, data-received, ack-placed}
 use Rattle.hub.proofs.Numbers.{error-most, reading-number}
@@ -345,20 +344,26 @@ module _ (c t : List ℕ) (socket : ℕ) where
     pub detached-gone : row_of slot_count (detached c t socket).table socket ≡ none
     detached-gone = rw detached-left (left-gone slot_count socket_count c t socket (adm.admitted-means slot_count socket_count c t socket a).1)
 
--- reading one parameter: a row is read without a refusal
-content-read : (c : List ℕ) (r : Slot) (index : ℕ) → finding_error (content_of c r index) ≡ 0
+-- reading one parameter
+abbrev number_read : Finding → ℕ
+number_read (held v) = 0
+number_read absent = 0
+number_read (read.refused n) = n
+
+-- a row is read without a refusal
+content-read : (c : List ℕ) (r : Slot) (index : ℕ) → number_read (content_of c r index) ≡ 0
 unfolding content_of
 content-read c r index = go (ltb index param_count && present_at r index)
   where
-    go : (b : Bool) → finding_error (cond b (held (meant (parameter_of c r.device index).kind (bits_at r index))) absent) ≡ 0
+    go : (b : Bool) → number_read (cond b (held (meant (parameter_of c r.device index).kind (bits_at r index))) absent) ≡ 0
     go true = refl
     go false = refl
 
 module _ (c t : List ℕ) (socket index : ℕ) where
   -- without 11, 9 and 10 a reading is refused with 15, where there is no row, or not at all
   found_none : (n : ℕ) → n ≢ 0 → (own : Option Slot) → finding c own index ≡ read.refused n → (own ≡ none) × (n ≡ 15)
-  found_none n ne (some r) h = absurd (ne (sym (ap finding_error h) ∙ content-read c r index))
-  found_none n ne none h = (refl, sym (ap finding_error h))
+  found_none n ne (some r) h = absurd (ne (sym (ap number_read h) ∙ content-read c r index))
+  found_none n ne none h = (refl, sym (ap number_read h))
 
   first_read :
       (n : ℕ) → n ≢ 0 → n ≢ 15 → (read_of c t socket index ≡ read.refused n) ↔ (admission slot_count socket_count c t socket ≡ change.refused n)
@@ -393,6 +398,11 @@ module _ (c t : List ℕ) (socket index : ℕ) where
       (no_row slot_count t socket))
 
 -- POSTING
+-- the number of a refusal, 0 for none
+abbrev result_number : publish.Result → ℕ
+result_number (publish.written count) = 0
+result_number (publish.refused number) = number
+
 module _ (c t buffer : List ℕ) where
   abbrev list : Publishing
   list = publish.writing (list_bytes (published slot_count socket_count c t)) buffer
@@ -405,10 +415,10 @@ module _ (c t buffer : List ℕ) where
   posted_number a b d = cond a (cond b (cond d 20 0) 9) 11
 
   numbered : (a b d : Bool) (n : ℕ) → (posted a b d).result ≡ publish.refused n → posted_number a b d ≡ n
-  numbered false b d n e = ap result_error e
-  numbered true false d n e = ap result_error e
-  numbered true true true n e = ap result_error e
-  numbered true true false n e = ap result_error e
+  numbered false b d n e = ap result_number e
+  numbered true false d n e = ap result_number e
+  numbered true true true n e = ap result_number e
+  numbered true true false n e = ap result_number e
 
   is-11 : (a b d : Bool) → posted_number a b d ≡ 11 → a ≡ false
   is-11 false b d e = refl

@@ -114,7 +114,7 @@ unfolding holds
 own-holds r socket u e = rw (u, eq-eqb r.socket socket e)
 
 -- a row that is left is the one that was to be
-pub row-left : (v : Verdict) (s row : Slot) → becomes_if v s ≡ becomes row → s ≡ row
+row-left : (v : Verdict) (s row : Slot) → becomes_if v s ≡ becomes row → s ≡ row
 row-left change.accepted s row e = ap (row_left s) e
 row-left (change.refused n) s row e = ap (row_left s) e
 

@@ -26,7 +26,8 @@ use Rattle.table.proofs.Tests.{never}
 use Rattle.lawful.specs.Lawful.{admission}
 use Rattle.lawful.proofs.Meaning.{lawful-means}
 use Rattle.lawful.proofs.Admission.{admitted-means}
-use Rattle.attach.specs.Attach.{device_in, uid_in, ack_row, Elsewhere, uid_free, place_for, assigned}
+use Rattle.attach.specs.Attach.{device_in, uid_in, ack_row, uid_free, place_for, assigned}
+use Rattle.attach.proofs.Facts.{Elsewhere}
 use Rattle.attach.proofs.Acks.{assigned-accepted, ack-accepts, other-uid-ack, uid-taken-ack, full-ack}
 use Rattle.attach.proofs.Acks as acks
 use Rattle.attach.proofs.Keeps.{second-ack}

@@ -20,8 +20,8 @@ use Rattle.lawful.proofs.Meaning.{lawful-means}
 use Rattle.attach.specs.Attach.{leaving, left}
 use Rattle.attach.proofs.Facts.{is_some}
 use Rattle.attach.proofs.Leaving.{leave_fits, leave-row}
-use Rattle.publish.specs.Published.{device_row, published, first_of, list_of}
-use Rattle.publish.proofs.Order.{Has, device-has-row, row-is-device, row-alone}
+use Rattle.publish.specs.Published.{device_row, published}
+use Rattle.publish.proofs.Order.{Has, first_of, list_of, device-has-row, row-is-device, row-alone}
 use Rattle.hub.specs.Receive.{received_of}
 use Rattle.hub.specs.Calls.{detached}
 use Rattle.hub.proofs.Keeps.{by_leave, others-kept, slot-either, received-lawful, detached-others, detached-lawful}

@@ -2,9 +2,8 @@
 -- calls that are refused change nothing.
 use Prim.Native.Nat.{ℕ, ◌≤◌}
 use mathlib.Core.Path.{◌≡◌, refl, sym}
-use mathlib.Core.Bool.{true}
+use mathlib.Core.Bool.{Bool, true, false}
 use mathlib.Core.List.{List, [], ◌∷◌}
-use mathlib.Core.Logic.{◌≢◌}
 use lib.ListN.{length}
 use borrow.Author.Tests.{le-ltb}
 use Rattle.wire.specs.Number.{Bytes}
@@ -21,6 +20,7 @@ use Rattle.table.proofs.Tests.{never}
 use Rattle.lawful.specs.Lawful.{lawful}
 use Rattle.lawful.proofs.Meaning.{lawful-means}
 use Rattle.lawful.proofs.Keeps.{empty-table-lawful, empty-table-bytes}
+use Rattle.parameters.specs.Read.{Finding}
 use Rattle.parameters.specs.Read as reading
 use Rattle.publish.specs.Published.{published}
 use Rattle.publish.specs.Outcome.{Result, written, writing, written_of}
@@ -28,8 +28,19 @@ use Rattle.publish.specs.Outcome as posting
 use Rattle.publish.proofs.Legal.{published-legal, buffer-reads-back}
 use Rattle.hub.specs.Receive.{Outcome, accepted, refused, received_of}
 use Rattle.hub.specs.Calls.{detached, publish_of}
-use Rattle.hub.specs.Events.{Event, receive, detach, read, publish, ByteEvent, ByteEvents, Reply, received, detaching, finding, publishing, is_refused, is_denied, is_not_written, is_refusal, result_error, error_of, reply_to, after_one, after_all}
+use Rattle.hub.specs.Events.{Event, receive, detach, read, publish, Reply, received, detaching, finding, publishing, reply_to, after_one, after_all}
 use Rattle.hub.proofs.Keeps.{refused-keeps, received-bytes, received-lawful, detached-keeps, detached-bytes, detached-lawful}
+
+-- what is received is bytes
+abbrev pub ByteEvent : Event → Type 0
+ByteEvent (receive socket bytes) = Bytes bytes
+ByteEvent (detach socket) = Unit {0}
+ByteEvent (read socket index) = Unit {0}
+ByteEvent (publish buffer) = Unit {0}
+
+abbrev pub ByteEvents : List Event → Type 0
+ByteEvents [] = Unit {0}
+ByteEvents (e ∷ es) = ByteEvent e × ByteEvents es
 
 -- what holds of every table on the way
 pub record Reached (c t : List ℕ) : Type 0 where
@@ -37,8 +48,7 @@ pub record Reached (c t : List ℕ) : Type 0 where
   pub is-bytes : Bytes t
   pub is-long : length t ≡ table_size slot_count
 
--- a lawful table of bytes is one of these
-pub reached-of : (c t : List ℕ) → lawful slot_count socket_count c t ≡ true → Bytes t → Reached c t
+reached-of : (c t : List ℕ) → lawful slot_count socket_count c t ≡ true → Bytes t → Reached c t
 reached-of c t h b = record { is_lawful = h; is-bytes = b; is-long = (lawful-means slot_count socket_count c t h).whole }
 
 -- LAW: a call of bytes keeps all of it
@@ -95,20 +105,29 @@ read_keeps c t socket index = refl
 pub publish-keeps : (c t buffer : List ℕ) → after_one c t (publish buffer) ≡ t
 publish-keeps c t buffer = refl
 
--- LAW: an answer with a number is a refusal
-pub error-refusal : (x : Reply) → error_of x ≢ 0 → is_refusal x ≡ true
-error-refusal (received (accepted consumed)) n = absurd (n refl)
-error-refusal (received (refused number)) n = refl
-error-refusal (detaching change.accepted) n = absurd (n refl)
-error-refusal (detaching (change.refused number)) n = refl
-error-refusal (finding (reading.held v)) n = absurd (n refl)
-error-refusal (finding reading.absent) n = absurd (n refl)
-error-refusal (finding (reading.refused number)) n = refl
-error-refusal (publishing p) n = go p.result n
-  where
-    go : (r : Result) → result_error r ≢ 0 → is_not_written r ≡ true
-    go (written count) n = absurd (n refl)
-    go (posting.refused number) n = refl
+-- a reply is a refusal
+abbrev is_refused : Outcome → Bool
+is_refused (accepted consumed) = false
+is_refused (refused number) = true
+
+abbrev is_denied : Verdict → Bool
+is_denied change.accepted = false
+is_denied (change.refused number) = true
+
+abbrev is_not_found : Finding → Bool
+is_not_found (reading.held v) = false
+is_not_found reading.absent = false
+is_not_found (reading.refused number) = true
+
+abbrev is_not_written : Result → Bool
+is_not_written (written count) = false
+is_not_written (posting.refused number) = true
+
+abbrev pub is_refusal : Reply → Bool
+is_refusal (received outcome) = is_refused outcome
+is_refusal (detaching verdict) = is_denied verdict
+is_refusal (finding found) = is_not_found found
+is_refusal (publishing p) = is_not_written p.result
 
 -- LAW: nor does a call that is refused
 pub refusal-keeps : (c t : List ℕ) (e : Event) → is_refusal (reply_to c t e) ≡ true → after_one c t e ≡ t

@@ -24,12 +24,12 @@ use Rattle.parameters.proofs.Values.{SameDevice, same_self, same-on, data-same-d
 use Rattle.parameters.proofs.Layouts.{same_width, same-judged}
 use Rattle.hub.specs.Receive.{Receiving, accepted, payload_in, received_of}
 use Rattle.hub.specs.Receive as answers
-use Rattle.hub.specs.Events.{Event, receive, detach, read, publish, ByteEvent, ByteEvents, is_refusal, reply_to, after_one, after_all}
-use Rattle.hub.specs.ByRow.{RowReceiving, is_ack_by, row_answering, row_by_type, row_by_judgement, row_received}
-use Rattle.hub.proofs.ByRow.{is_uid_free, is_any_free, received-by-row, own_row}
+use Rattle.hub.specs.Events.{Event, receive, detach, read, publish, reply_to, after_one, after_all}
+use Rattle.hub.specs.ByRow.{RowReceiving, row_answering, row_by_type, row_by_judgement, row_received}
+use Rattle.hub.proofs.ByRow.{is_ack_by, is_uid_free, is_any_free, received-by-row, own_row}
 use Rattle.hub.proofs.Packets.{not-admitted, accepted-admitted, ack-slot}
 use Rattle.hub.proofs.Posted.{other_row, leave-other-row}
-use Rattle.hub.proofs.Reached.{Reached, one_more, refusal-keeps}
+use Rattle.hub.proofs.Reached.{ByteEvent, ByteEvents, Reached, one_more, is_refusal, refusal-keeps}
 
 -- a socket's row is there, of the same device as s
 pub record OfDevice (own : Option Slot) (s : Slot) : Type 0 where

@@ -1,6 +1,6 @@
 -- What a packet does for its socket's row: the answer and the row afterwards go by that row alone, for an ACK also by two facts
 -- about the other rows.
-use Rattle.std.specs.Prelude.{ℕ, Bool, false, cond, List, [], eqb}
+use Rattle.std.specs.Prelude.{ℕ, Bool, cond, List, eqb}
 use Rattle.std.proofs.Math.Option.{Option, some}
 use Rattle.packet.specs.TypeTable.{ACK, DEVICE_DATA, LOG}
 use Rattle.packet.specs.Packet.{Judgement, Reading}
@@ -20,16 +20,6 @@ pub record RowReceiving : Type 0 where
 abbrev pub row_answering : Option Slot → Change → ℕ → RowReceiving
 row_answering own (becomes row) consumed = record { outcome = accepted consumed; row = some row }
 row_answering own (denied number) consumed = record { outcome = refused number; row = own }
-
--- the packet that was read is an ACK: one that the packet reader accepts with that type
-abbrev pub is_ack_by : Judgement → Bool
-is_ack_by (packet.accepted type n consumed) = eqb type ACK
-is_ack_by (packet.refused number) = false
-
--- the payload of the packet that was read, none where there is no packet
-abbrev pub payload_by : Judgement → List ℕ → List ℕ
-payload_by (packet.accepted type n consumed) message = payload_in message n
-payload_by (packet.refused number) message = []
 
 -- a message by its type: `is_uid_free` and `any_free` bear on an ACK alone
 unfoldable pub row_by_type : List ℕ → ℕ → Option Slot → ℕ → List ℕ → ℕ → Bool → Bool → RowReceiving

@@ -5,13 +5,14 @@ use mathlib.Core.Bool.{Bool, true, false, cond}
 use mathlib.Core.List.{List, [], ◌∷◌}
 use mathlib.Core.Option as option
 use mathlib.Core.Option.{Option, some, map}
-use mathlib.Core.Logic.{◌⊎◌, inl, inr, ⊎_elim, ◌≢◌}
+use mathlib.Core.Logic.{◌⊎◌, inl, inr, ⊎_elim}
 use native.Mathlib.Omega.{arith}
 use native.Mathlib.Nat.{eq-or-lt_of_le}
 use lib.Dec.{eqb}
 use lib.ListN.{length}
 use borrow.Author.Tests.{eq-eqb, ne_eqb}
-use Rattle.list.specs.Tree.{Elements, none, value, list, count}
+use Rattle.list.specs.Tree as tree
+use Rattle.list.specs.Tree.{Elements, none, value, list, int, vocab, float, str, blob, count}
 use Rattle.slot.specs.Slot.{param_count, present_at}
 use Rattle.slot.specs.Rows.{slot_at}
 use Rattle.slot.specs.declared.Slot.{Slot}
@@ -21,7 +22,7 @@ use Rattle.table.specs.declared.Place.TheVariants.{At, Nowhere}
 use Rattle.table.proofs.Searches.{holds_parts, place_found}
 use Rattle.lawful.specs.Lawful.{Lawful}
 use Rattle.lawful.proofs.Keeps.{own-place}
-use Rattle.publish.specs.Published.{element_of, held_value, pair, list_if, parameters_from, device_row, row_before, devices_from, published, first_of, list_of}
+use Rattle.publish.specs.Published.{element_of, held_value, pair, list_if, parameters_from, device_row, row_before, devices_from, published}
 
 -- WHAT IS SAID
 -- a list stands among the elements
@@ -29,6 +30,19 @@ abbrev pub Has : Elements → Elements → Type 0
 Has none row = ⊥
 Has (value v es) row = Has es row
 Has (list inner es) row = (row ≡ inner) ⊎ Has es row
+
+-- the first number of a list
+abbrev pub number_of : tree.Value → ℕ
+number_of (int n) = n
+number_of (vocab n) = n
+number_of (float low high) = 0
+number_of (str bs) = 0
+number_of (blob bs) = 0
+
+abbrev pub first_of : Elements → ℕ
+first_of none = 0
+first_of (value v es) = number_of v
+first_of (list inner es) = 0
 
 -- the first numbers of the lists among the elements: the sockets of rows, the indices of parameters
 abbrev pub firsts : Elements → List ℕ
@@ -44,6 +58,12 @@ Above a (b ∷ l) = (a < b) × Above a l
 abbrev pub Rising : List ℕ → Type 0
 Rising [] = Unit {0}
 Rising (a ∷ l) = Above a l × Rising l
+
+-- the list among the elements whose first number is this one
+abbrev pub list_of : Elements → ℕ → Option Elements
+list_of none n = option.none
+list_of (value v es) n = list_of es n
+list_of (list inner es) n = cond (eqb (first_of inner) n) (some inner) (list_of es n)
 
 -- DEVICES
 -- the row that is found for a socket is that socket's
@@ -154,21 +174,16 @@ pub rows-only : (slots sockets : ℕ) (c t : List ℕ) → length (firsts (publi
 rows-only slots sockets c t = devices-lists sockets slots c t 0
 
 -- ONE SOCKET'S ROW
-listed-none :
-    (n slots : ℕ) (c t : List ℕ) (from socket : ℕ) → ((k : ℕ) → k < n → from + k ≢ socket) →
-    list_of (devices_from n slots c t from) socket ≡ option.none
+listed-past : (n slots : ℕ) (c t : List ℕ) (from socket : ℕ) → socket < from → list_of (devices_from n slots c t from) socket ≡ option.none
 unfolding devices_from row_before device_row
-listed-none zero slots c t from socket ne = refl
-listed-none (suc n) slots c t from socket ne =
-    go (place_of slots t from) refl (listed-none n slots c t (from + 1) socket (λ k l e. ne (k + 1) (omega arith) (omega arith)))
+listed-past zero slots c t from socket l = refl
+listed-past (suc n) slots c t from socket l = go (place_of slots t from) refl (listed-past n slots c t (from + 1) socket (omega arith))
   where
     go :
         (p : Place) → place_of slots t from ≡ p → list_of (devices_from n slots c t (from + 1)) socket ≡ option.none →
         list_of (row_before c (row_at t p) (devices_from n slots c t (from + 1))) socket ≡ option.none
     go Nowhere e h = h
-    go (At i) e h =
-        let q = row-socket slots t from i e in
-        rw (ne_eqb (slot_at t i).socket socket (λ f. ne 0 (omega arith) (omega arith))) h
+    go (At i) e h = let q = row-socket slots t from i e in rw (ne_eqb (slot_at t i).socket socket (λ f. omega arith)) h
 
 listed_here :
     (n slots : ℕ) (c t : List ℕ) (socket : ℕ) → list_of (devices_from (suc n) slots c t socket) socket ≡ map (device_row c) (row_of slots t socket)
@@ -178,7 +193,7 @@ listed_here n slots c t socket = go (place_of slots t socket) refl
     go :
         (p : Place) → place_of slots t socket ≡ p →
         list_of (row_before c (row_at t p) (devices_from n slots c t (socket + 1))) socket ≡ map (device_row c) (row_at t p)
-    go Nowhere e = listed-none n slots c t (socket + 1) socket (λ k l f. omega arith)
+    go Nowhere e = listed-past n slots c t (socket + 1) socket (omega arith)
     go (At i) e = rw (eq-eqb (slot_at t i).socket socket (row-socket slots t socket i e))
 
 listed :
@@ -204,10 +219,6 @@ pub row-published :
     (slots sockets : ℕ) (c t : List ℕ) (socket : ℕ) → socket < sockets →
     list_of (published slots sockets c t) socket ≡ map (device_row c) (row_of slots t socket)
 row-published slots sockets c t socket l = listed sockets slots c t 0 socket (omega arith) (omega arith)
-
--- LAW: none is published for a number that is no socket
-pub row-past : (slots sockets : ℕ) (c t : List ℕ) (socket : ℕ) → sockets ≤ socket → list_of (published slots sockets c t) socket ≡ option.none
-row-past slots sockets c t socket l = listed-none sockets slots c t 0 socket (λ k m e. omega arith)
 
 -- LAW: so it depends on that row and the catalogue alone: whatever else two tables hold, it is the same
 pub row-alone :

@@ -1,5 +1,5 @@
 -- The published list ("The posted list has one row for each seated socket, in rising socket order").
-use Rattle.std.specs.Prelude.{ℕ, zero, suc, ◌+◌, ◌/◌, ◌%◌, Bool, true, false, cond, List, eqb}
+use Rattle.std.specs.Prelude.{ℕ, zero, suc, ◌+◌, ◌/◌, ◌%◌, Bool, true, false, cond, List}
 use Rattle.std.proofs.Math.Option as option
 use Rattle.std.proofs.Math.Option.{Option, some}
 use Rattle.std.specs.Float.{binary64}
@@ -8,7 +8,7 @@ use Rattle.std.specs.Int.{w32}
 use Rattle.std.proofs.Common.{of_z}
 use Rattle.wire.specs.Number.{le_bytes}
 use Rattle.list.specs.Tree as tree
-use Rattle.list.specs.Tree.{Elements, none, value, list, int, vocab, float, str, blob}
+use Rattle.list.specs.Tree.{Elements, none, value, list, int, float, blob}
 use Rattle.catalogue.specs.Lookup.{parameter_of}
 use Rattle.value.specs.Meaning.{value_of, widened}
 use Rattle.value.specs.declared.Value.{Value}
@@ -65,23 +65,3 @@ devices_from (suc n) slots c t socket = row_before c (row_of slots t socket) (de
 -- "one row for each seated socket"
 abbrev pub published : ℕ → ℕ → List ℕ → List ℕ → Elements
 published slots sockets c t = devices_from sockets slots c t 0
-
--- a value's number: a row starts with its socket, a parameter's list with its index
-abbrev pub number_of : tree.Value → ℕ
-number_of (int n) = n
-number_of (vocab n) = n
-number_of (float low high) = 0
-number_of (str bs) = 0
-number_of (blob bs) = 0
-
--- the first number of a list
-abbrev pub first_of : Elements → ℕ
-first_of none = 0
-first_of (value v es) = number_of v
-first_of (list inner es) = 0
-
--- "p's part of the posted list": the list among the elements whose first number is this one
-abbrev pub list_of : Elements → ℕ → Option Elements
-list_of none n = option.none
-list_of (value v es) n = list_of es n
-list_of (list inner es) n = cond (eqb (first_of inner) n) (some inner) (list_of es n)
