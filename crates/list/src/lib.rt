@@ -47,7 +47,7 @@ pub struct Refusal {
 }
 
 // One row of a list: a code and two numbers.
-#[derive(Drop)]
+#[derive(Clone, Copy)]
 pub struct Row {
     pub code: u32,
     pub second: u32,
@@ -135,7 +135,7 @@ pub fn common_code(seen: u32, code: u32) -> u32
 }
 
 // "Codes: NetInt 1, NetFloat 10 (8 bytes, low byte first), NetString 4, NetBlob 12, NetVocab 9."
-#[derive(Drop)]
+#[derive(Clone, Copy)]
 pub enum Kind {
     Int,
     Float,
