@@ -1,5 +1,5 @@
 -- Which lists have a text. 31: "no text form (infinities, NaNs, other vocabs)"
-use Rattle.std.specs.Prelude.{ℕ, ◌-◌, ◌^◌, ◌≡◌, Bool, true, false, not, ◌&&◌, ◌||◌, List, [], ◌∷◌, eqb, leb, length}
+use Rattle.std.specs.Prelude.{ℕ, ◌-◌, ◌^◌, ◌≡◌, Bool, true, not, ◌&&◌, ◌||◌, List, [], ◌∷◌, eqb, leb, length}
 use Rattle.wire.specs.Number.{le_value}
 use Rattle.list.specs.Tree.{Value, Elements, int, vocab, float, str, blob, none, value, list}
 use Rattle.list.specs.Legal.{LegalValue}

@@ -1,5 +1,5 @@
 -- The text of a list: the text format of source document 002 as ticket a reads it. Characters are their ASCII codes.
-use Rattle.std.specs.Prelude.{ℕ, ◌+◌, ◌-◌, ◌*◌, ◌/◌, ◌%◌, ◌^◌, Bool, true, false, cond, ◌&&◌, ◌||◌, List, [], ◌∷◌, ◌++◌, eqb, leb}
+use Rattle.std.specs.Prelude.{ℕ, ◌-◌, ◌*◌, ◌/◌, ◌%◌, ◌^◌, Bool, true, false, cond, ◌&&◌, ◌||◌, List, [], ◌∷◌, ◌++◌, eqb, leb}
 use Rattle.wire.specs.Number.{le_bytes}
 use Rattle.digits.specs.Decimal.{decimal}
 use Rattle.digits.specs.Fixed.{fixed}
