@@ -1,0 +1,12 @@
+-- `catalogue::parameter_of` meets its contract, by its test and the byte.
+use borrow.Author.Tests.{lt-ltb, le-ltb}
+use Rattle.catalogue.specs.Lookup.{parameter_in}
+use Rattle.catalogue.proofs.parameter_of.Goals as goal
+
+pub returns-then-index-d : goal.returns-then-index-d
+unfolding parameter_in
+returns-then-index-d c = rw (lt-ltb _ _ c.if-index-d.true, ← c.parameter_byte.ensures) c.describe.ensures
+
+pub returns : goal.returns
+unfolding parameter_in
+returns c = rw (le-ltb _ _ c.if-index-d.false)
