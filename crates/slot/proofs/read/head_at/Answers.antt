@@ -1,0 +1,19 @@
+-- `slot::read::head_at` meets its contract: the head is read where the table has the row.
+use Prim.Native.Nat.{◌+◌, ◌*◌, ◌-◌}
+use mathlib.Core.Path.{◌≡◌, sym, ap, ◌∙◌}
+use native.Mathlib.Omega.{arith}
+use lib.ListN.{take, drop}
+use Rattle.slot.specs.Row.{slot_size, slot_of, head_of}
+use Rattle.slot.proofs.Rows.{slot-past, slot-here}
+use Rattle.slot.proofs.read.head_at.Goals as goal
+
+pub returns-then-t-i : goal.returns-then-t-i
+returns-then-t-i c = let a = c.args in sym (ap head_of (slot-past a.t.now a.i (omega arith)))
+
+pub returns : goal.returns
+returns c =
+    let a = c.args in
+    let n : slot_size * a.i + slot_size - slot_size * a.i ≡ slot_size = omega arith in
+    c.head_of.ensures
+    ∙ ap (λ k. head_of (slot_of (take k (drop (slot_size * a.i) a.t.now)))) n
+    ∙ ap head_of (sym (slot-here a.t.now a.i (omega arith)))
