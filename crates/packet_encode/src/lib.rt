@@ -174,7 +174,7 @@ fn put_front(buffer: &mut [u8], kind: u8, n: usize, code: usize)
 
 // Writes the packet of a type and a payload to the front of the buffer. Nothing is written before the last error is ruled out.
 pub fn encode(kind: u8, payload: &[u8], buffer: &mut [u8]) -> Encoded
-    ensures* { λ r. ⌜ record { result = result_of r; buffer = buffer.new } ≡ encoded kind payload.now buffer.old ⌝ }
+    ensures { record { result = result_of result; buffer = buffer.new } ≡ encoded kind payload.now buffer.old }
 {
     if buffer.len() < PACKET_ROOM {
         return Encoded::Refused(20);
