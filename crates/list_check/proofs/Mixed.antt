@@ -53,7 +53,8 @@ module _ (inner : ℕ → ℕ → Parsed Elements) (s : List ℕ) (at : ℕ) whe
           → closing at seen (and_then (and_then p (λ v next. good (value v) next)) (λ f next. and_then (mixed_at inner list_limit s left next) (λ es end. good (f es) end)))
           ≡ then_go (judged p) (rest left (common seen (code_of k)))
       go (good v next) e =
-          put (value v) seen _ (λ es. ap (λ (l : Kind). common_of (common seen (code_of l)) es) (value-kind list_limit s k (pos + 4) v next e)) (mixed_at inner list_limit s left next)
+          put (value v) seen _ (λ es. ap (λ (l : Kind). common_of (common seen (code_of l)) es) (value-kind list_limit s k (pos + 4) v next e))
+          (mixed_at inner list_limit s left next)
       go (bad r) e = refl
 
   -- a list
@@ -175,7 +176,8 @@ module _ (d : ℕ) (s : List ℕ) (at code count : ℕ) (deep : d ≡ 0 → ⊥)
 
   -- a list code that names a kind, or none
   module _ (e : negative count ≡ false) where
-    pub is-typed : (k : Kind) → code ≡ typed_code k → judged (in_list (finished (typed_code k) at (typed_at list_limit s k count (at + 8)))) ≡ judged (list_at d list_limit s at code)
+    pub is-typed : (k : Kind) → code ≡ typed_code k
+        → judged (in_list (finished (typed_code k) at (typed_at list_limit s k count (at + 8)))) ≡ judged (list_at d list_limit s at code)
     is-typed k q = sym (rw (opened, e, q, kind-of-typed k))
 
     pub is-mixed : code ≡ list_code → judged (list_at d list_limit s at code) ≡ rest (list_at (d - 1) list_limit s) s at count 0 (at + 8)

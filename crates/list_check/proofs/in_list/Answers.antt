@@ -5,10 +5,9 @@ use native.Mathlib.Omega.{arith}
 use borrow.Author.Tests.{lt-ltb}
 use Rattle.list.specs.Limits.{list_limit}
 use Rattle.list_check.specs.Steps.{told_by, depth_of}
-use Rattle.list_check.proofs.in_list.Statement.{statement}
-use Rattle.list_check.proofs.in_list.Tie as tie
+use Rattle.list_check.proofs.in_list.Goals as goal
 
-returns : tie.Need-returns
+pub returns : goal.returns
 unfolding told_by
 returns c =
     let j = c.args.j in
@@ -18,5 +17,5 @@ returns c =
     let depth : depth_of (level + j) ≡ suc (depth_of j) = omega arith in
     rw (lt-ltb list_limit (level + j) (omega arith), lt-ltb list_limit j c.requires.0, number, offset, depth)
 
-pub in-list-spec : {M : Type 1} → statement M
-in-list-spec = tie.close (tie.spec (λ c. record { fits = omega (arith, c.requires.1) }) returns)
+pub overflow_add-result : goal.overflow_add-result
+overflow_add-result c = record { fits = omega (arith, c.requires.1) }

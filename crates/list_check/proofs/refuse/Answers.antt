@@ -5,11 +5,9 @@ use native.Mathlib.Omega.{arith}
 use borrow.Author.Tests.{lt-ltb}
 use Rattle.list.specs.Limits.{list_limit}
 use Rattle.list_check.specs.Steps.{told_by}
-use borrow.Author.Rules.{rules}
-use Rattle.list_check.proofs.refuse.Statement.{statement}
-use Rattle.list_check.proofs.refuse.Tie as tie
+use Rattle.list_check.proofs.refuse.Goals as goal
 
-returns : tie.Need-returns
+pub returns : goal.returns
 unfolding told_by
 returns c =
     let n = c.args.error in
@@ -18,6 +16,3 @@ returns c =
     let f : (2 * list_limit * n + o) % (2 * list_limit) ≡ o = omega arith in
     let d : (2 * list_limit * n + o) / (256 * (2 * list_limit)) ≡ 0 = omega arith in
     rw (lt-ltb list_limit (2 * list_limit * n + o) (omega arith), e, f, d)
-
-pub refuse-spec : {M : Type 1} → statement M
-refuse-spec = tie.close (tie.spec (λ c. search rules) (λ c. search rules) returns)
