@@ -11,7 +11,7 @@ use lib.ListN.{length}
 use borrow.Author.Tests.{ltb-true, ltb-false, lt-ltb, le-ltb, eqb-true}
 use Rattle.list.specs.Limits.{list_limit, depth_limit}
 use Rattle.list.specs.Kind.{code_of, list_code}
-use Rattle.list.specs.Tree.{Value, kind}
+use Rattle.list.specs.Tree.{kind}
 use Rattle.list.specs.Bytes.{value_bytes, common}
 use Rattle.list.proofs.RowBound.{value-size}
 use Rattle.digits.specs.Read.{Read, got, wrong, and_read}

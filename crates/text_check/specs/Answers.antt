@@ -1,10 +1,10 @@
 -- Internal: what the answers of the code say, and how its tally goes on. Public contracts do not cite this file.
-use Rattle.std.specs.Prelude.{ℕ, suc, ◌+◌, ◌-◌, ◌*◌, ◌<◌, ◌≤◌, ◌≡◌, Bool, true, false, cond, ◌||◌, List, eqb, ltb, length}
+use Rattle.std.specs.Prelude.{ℕ, suc, ◌+◌, ◌-◌, ◌*◌, ◌≤◌, ◌≡◌, Bool, true, false, cond, ◌||◌, List, eqb, ltb, length}
 use Rattle.digits.specs.Read.{Read, got, wrong, and_read}
 use Rattle.list.specs.Limits.{list_limit, depth_limit}
 use Rattle.list.specs.declared.Kind.TheVariants.{Vocab}
 use Rattle.list.specs.Kind.{code_of, size_of, list_code}
-use Rattle.list.specs.Tree.{Value, kind}
+use Rattle.list.specs.Tree.{kind}
 use Rattle.list.specs.Bytes.{value_bytes, common}
 use Rattle.text.specs.Tokens.{Token, opening, closing, item}
 use Rattle.text_value.specs.declared.WordRead.{WordRead}

@@ -1,10 +1,10 @@
 -- Internal: depth and size of a list, found token by token. Only the innermost open list can still turn out to be a typed one, since a
 -- list that holds a list is none: so what is known of it is enough. Public contracts do not cite this file.
-use Rattle.std.specs.Prelude.{ℕ, zero, suc, ◌+◌, ◌-◌, max, Bool, cond, List, [], ◌∷◌, eqb, length}
+use Rattle.std.specs.Prelude.{ℕ, suc, ◌+◌, ◌-◌, max, cond, List, [], ◌∷◌, eqb, length}
 use Rattle.std.proofs.Math.Option.{Option, some}
 use Rattle.std.proofs.Math.Option as option
 use Rattle.list.specs.Kind.{code_of, list_code}
-use Rattle.list.specs.Tree.{Value, kind}
+use Rattle.list.specs.Tree.{kind}
 use Rattle.list.specs.Bytes.{value_bytes, common}
 use Rattle.text.specs.Tokens.{Token, opening, closing, item}
 

@@ -9,7 +9,7 @@ use crate::span::{Span, blob_span, string_span};
 use list::{Kind, LIST_LIMIT, NUMBER, TERMINATOR};
 use text_value::{NumberRead, WordRead, number_at, vocab_at};
 
-#[derive(Drop)]
+#[derive(Clone, Copy)]
 pub enum TokenRead {
     Open(usize),
     Close,
