@@ -1,0 +1,67 @@
+-- `push` judges the packet area and the line state, and goes on from where the way to a part ends.
+use borrow.Author.Tests.{not-true, not-false}
+use Rattle.std.proofs.Common.{◌≡◌, ℕ, ◌≤◌, true, List, length, drop, sym, refl, ap, ◌∙◌, arith, length-drop, le-ltb, lt-ltb, take, ◌-◌}
+use Rattle.packet_line.proofs.Judging.{pushed-line}
+use Rattle.packet_line.proofs.Starts.{rest_of, further, took-within}
+use Rattle.packet_line.specs.Steps.{IsInside, later}
+use Rattle.packet_line.specs.Push.{outcome, Taken, outcome_of, taken_from, pushed, Answer}
+use Rattle.packet_line.specs.State.{State, inside, size_in, held_in, state_in, is_line}
+use Rattle.packet.specs.Packet.{PACKET_ROOM}
+use Rattle.packet_line.proofs.phases.push.Goals as goal
+
+-- an area with room for a packet, and a line state that a line reaches
+module _ (line bytes area : List ℕ) (room : PACKET_ROOM ≤ length area) (is : is_line line ≡ true) where
+  -- what the state takes of the bytes is what is answered
+  answered : outcome_of (taken_from (state_in line) bytes) area ≡ pushed line bytes area
+  answered = pushed-line line bytes area _ room is refl
+
+-- a part's bytes come next
+module _ (line bytes area line₁ area₁ : List ℕ) (at : ℕ)
+    (begins : (IsInside line₁) × (area₁ ≡ area) × (taken_from (state_in line) bytes ≡ later at (taken_from (inside (size_in line₁) (held_in line₁)) (drop at bytes)))) where
+  -- the state that the way leaves
+  abbrev on : State
+  on = inside (size_in line₁) (held_in line₁)
+
+  -- what the part takes of the bytes behind the way
+  inner : {a : Answer} {n : ℕ} {line₂ area₂ : List ℕ} → outcome a n line₂ area₂ ≡ outcome_of (taken_from on (take (length bytes - at) (drop at bytes))) area₁
+      → outcome a n line₂ area₂ ≡ outcome_of (taken_from on (drop at bytes)) area
+  inner e = e ∙ ap (λ (l : List ℕ). outcome_of (taken_from on l) area₁) (rest_of bytes at) ∙ ap (outcome_of (taken_from on (drop at bytes))) begins.1
+
+pub returns-then-packet-lt-PACKET_ROOM : goal.returns-then-packet-lt-PACKET_ROOM
+unfolding pushed
+returns-then-packet-lt-PACKET_ROOM c = rw (c.refused.ensures, lt-ltb _ _ c.if-packet-lt-PACKET_ROOM.true)
+
+pub returns-then-not-is_line : goal.returns-then-not-is_line
+unfolding pushed
+returns-then-not-is_line c =
+    rw (c.refused-then-not-is_line.ensures, le-ltb _ _ c.if-packet-lt-PACKET_ROOM.false, sym c.is_line.ensures ∙ c.if-not-is_line.true)
+
+pub enter-e-requires : goal.enter-e-requires
+enter-e-requires c = (sym c.is_line.ensures ∙ c.if-not-is_line.false, c.if-packet-lt-PACKET_ROOM.false)
+
+pub returns-then-not-e : goal.returns-then-not-e
+returns-then-not-e c =
+    c.enter-e.ensures.found (not-true _ c.if-not-e.true)
+    ∙ answered _ c.args.bytes.now _ c.if-packet-lt-PACKET_ROOM.false (sym c.is_line.ensures ∙ c.if-not-is_line.false)
+
+pub from_inside-p-requires : goal.from_inside-p-requires
+from_inside-p-requires c =
+    let b = c.enter-e.ensures.begins (not-false _ c.if-not-e.false) in
+    (b.0, rw b.1 c.if-packet-lt-PACKET_ROOM.false)
+
+pub overflow_add-result : goal.overflow_add-result
+overflow_add-result c =
+    let e = c.enter-e.ensures in
+    let i = inner c.args.line.now c.args.bytes.now c.args.packet.now _ _ c.enter-e.result.at (e.begins (not-false _ c.if-not-e.false)) c.from_inside-p.ensures in
+    omega (arith, took-within _ _ _ i, length-drop c.enter-e.result.at c.args.bytes.now, e.fits)
+
+pub returns : goal.returns
+returns c =
+    let line = c.args.line.now in
+    let bytes = c.args.bytes.now in
+    let area = c.args.packet.now in
+    let at = c.enter-e.result.at in
+    let b = c.enter-e.ensures.begins (not-false _ c.if-not-e.false) in
+    further at area _ (inner line bytes area _ _ at b c.from_inside-p.ensures)
+    ∙ ap (λ (t : Taken). outcome_of t area) (sym b.2)
+    ∙ answered line bytes area c.if-packet-lt-PACKET_ROOM.false (sym c.is_line.ensures ∙ c.if-not-is_line.false)
