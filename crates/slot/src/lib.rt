@@ -30,7 +30,7 @@ const WORD: usize = 4;
 
 // A device's row: for each parameter whether a value is held, and its bits. The UID is a number, low byte first in packets
 // and lists, so that two of them are compared at once.
-#[derive(Drop)]
+#[derive(Clone, Copy)]
 pub struct Slot {
     pub taken: bool,
     pub socket: u8,
@@ -42,7 +42,7 @@ pub struct Slot {
 }
 
 // A row without its values: small, so that a search reads it in registers.
-#[derive(Drop)]
+#[derive(Clone, Copy)]
 pub struct Head {
     pub taken: bool,
     pub socket: u8,

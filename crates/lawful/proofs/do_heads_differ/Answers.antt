@@ -7,8 +7,7 @@ use Rattle.slot.specs.Row.{head_of}
 use Rattle.slot.specs.declared.Slot.{Slot}
 use Rattle.slot.specs.declared.Head.{Head}
 use Rattle.lawful.specs.Lawful.{slots_differ}
-use Rattle.lawful.proofs.do_heads_differ.Statement.{statement}
-use Rattle.lawful.proofs.do_heads_differ.Tie as tie
+use Rattle.lawful.proofs.do_heads_differ.Goals as goal
 
 -- the test goes by the heads alone
 abbrev differ : Head → Head → Bool
@@ -18,29 +17,26 @@ by_heads : (g h : Head) (s u : Slot) → g ≡ head_of s → h ≡ head_of u →
 unfolding slots_differ
 by_heads g h s u e f = ap (λ x. differ x h) e ∙ ap (differ (head_of s)) f
 
-returns : tie.Need-returns
-returns c s u e f =
+pub returns-then-g-h : goal.returns-then-g-h
+returns-then-g-h c s u e f =
     rw (
       ← by_heads _ _ s u e f,
-      c.before.before.before.before.if1.true,
-      c.before.before.before.if2.true,
-      eq-eqb _ _ c.if3.true,
+      c.if-g.true,
+      c.if-h.true,
+      eq-eqb _ _ c.if-g-h.true,
     )
 
-returns-2 : tie.Need-returns-2
-returns-2 c s u e f =
+pub returns-then-h : goal.returns-then-h
+returns-then-h c s u e f =
     rw (
       ← by_heads _ _ s u e f,
-      c.before.before.before.before.before.before.if1.true,
-      c.before.before.before.before.before.if2.true,
-      ne_eqb _ _ c.before.before.if3.false,
+      c.if-g.true,
+      c.if-h.true,
+      ne_eqb _ _ c.if-g-h.false,
     )
 
-returns-3 : tie.Need-returns-3
-returns-3 c s u e f = rw (← by_heads _ _ s u e f, c.before.if1.true, c.if2.false)
+pub returns-else-h : goal.returns-else-h
+returns-else-h c s u e f = rw (← by_heads _ _ s u e f, c.if-g.true, c.if-h.false)
 
-returns-4 : tie.Need-returns-4
-returns-4 c s u e f = rw (← by_heads _ _ s u e f, c.if1.false)
-
-pub do-heads-differ-spec : {M : Type 1} → statement M
-do-heads-differ-spec = tie.close (tie.spec returns returns-2 returns-3 returns-4)
+pub returns-else-g : goal.returns-else-g
+returns-else-g c s u e f = rw (← by_heads _ _ s u e f, c.if-g.false)
