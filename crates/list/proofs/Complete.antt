@@ -178,7 +178,8 @@ module _ (limit : ℕ) (small : limit < 2 ^ 31) (s : List ℕ) where
       → Stands s at (list_bytes es ++ rest) → at + length (list_bytes es) ≤ limit → list_at (suc d) limit s at (list_code_of es) ≡ good es (at + length (list_bytes es))
   unfolding list_bytes
   list-ok d es at rest l m h f =
-      body_ok d (list_code_of es) es at rest h (omega arith) (λ h₈. go (code_is es) h₈ (omega arith)) ∙ rw (eq-eqb (list_code_of es) (list_code_of es) refl) (ap (good es) (omega arith))
+      body_ok d (list_code_of es) es at rest h (omega arith) (λ h₈. go (code_is es) h₈ (omega arith))
+      ∙ rw (eq-eqb (list_code_of es) (list_code_of es) refl) (ap (good es) (omega arith))
     where
       go : CodeIs es → Stands s (at + 8) (element_bytes (list_code_of es) es ++ rest) → at + 8 + length (element_bytes (list_code_of es) es) ≤ limit
           → elements_at (list_at d limit s) limit s (kind_of (list_code_of es - list_code)) (count es) (at + 8) ≡ good es (at + 8 + length (element_bytes (list_code_of es) es))

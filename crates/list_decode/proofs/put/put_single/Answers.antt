@@ -8,31 +8,14 @@ use Rattle.wire.specs.Number.{le_bytes}
 use Rattle.wire.proofs.Numbers.{bytes-joined}
 use Rattle.list_decode.proofs.Writing.{part-puts}
 use borrow.Author.Rules.{rules}
-use Rattle.list_decode.proofs.put.put_single.Statement.{statement}
-use Rattle.list_decode.proofs.put.put_single.Tie as tie
+use Rattle.list_decode.proofs.put.put_single.Goals as goal
 
-returns : tie.Need-returns
+pub returns : goal.returns
 returns c =
-    let w = c.before.before in
-    let u = w.before.before.before in
-    let b = u.before.before.before.before in
-    let a = b.args in
+    let a = c.args in
     let row = a.rows.now in
-    let small = b.ranges.second.fits in
+    let small = c.ranges.second.fits in
     let same : a.second ≡ a.second + 256 ^ 4 * 0 = omega arith in
     let wide : le_bytes 8 a.second ≡ le_bytes 4 a.second ++ le_bytes 4 0 = ap (le_bytes 8) same ∙ bytes-joined 4 4 a.second 0 (omega (arith, small)) in
-    part-puts row a.at (a.at + 12) 4 (le_bytes 4 a.code) (le_bytes 8 a.second) _ _ refl refl (search rules) u.put-u32.ensures w.put-u64.ensures
+    part-puts row a.at (a.at + 12) 4 (le_bytes 4 a.code) (le_bytes 8 a.second) _ _ refl refl (search rules) c.put_u32.ensures c.put_u64.ensures
     ∙ ap (λ l. sets row a.at (le_bytes 4 a.code ++ l)) wide
-
-pub put-single-spec : {M : Type 1} → statement M
-put-single-spec =
-    tie.close
-    (tie.spec
-    (λ c. search rules)
-    (λ c. search rules)
-    (λ c. search rules)
-    (λ c. search rules)
-    (λ c κs. search rules)
-    (λ c κs. search rules)
-    (λ c. search rules)
-    returns)
