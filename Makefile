@@ -1,32 +1,34 @@
 # make demo   proves and builds everything, then replays the evening of the faulty sensor
-# make test   the gate: layout, every proof from nothing, then the tests from outside
+# make test   the gate: layout, every proof from nothing and every must-fail edit (`rt ci`), then the tests from outside
 # make fuzz   compares the product with the second reader for SECONDS seconds
 # make bench  time and instructions of the archive against the second reader and plain C
+#
+# What is built stands in target/, as copies of what rt builds in crates/NAME/out: the programs run, replay, show and line in target/bin,
+# the archive libcinder.a in target/staticlib. From there the tests and examples take it. `make built` brings it up to date.
 
-.PHONY: demo test layout outside built fuzz bench
+.PHONY: demo test outside built fuzz bench
 
 # A pipe fails where one of its commands does.
 SHELL := bash
 .SHELLFLAGS := -o pipefail -c
 
 demo:
-	rt check
+	rt all check
+	@$(MAKE) --no-print-directory built
 	examples/demo.sh
 
-# The tests from outside use what `rt ci` leaves in target/. Its last line, the tally, is held back until they have passed.
-test: layout
+# `rt ci` refuses files that are not laid out, and passes with must-fail edits that cannot be applied, which its line `rt: ok` counts as bad:
+# the gate does not. The last line of `rt ci`, the tally, is held back until the tests from outside have passed.
+test:
 	@mkdir -p target
-	rt ci | awk 'NR > 1 { print held; fflush() } { held = $$0 } END { print held > "target/tally" }'
-	@$(MAKE) --no-print-directory outside
+	@touch target/began
+	rt ci | awk -f tests/tally.awk -v tally=target/tally
+	@$(MAKE) --no-print-directory outside BEGAN=target/began
 	@cat target/tally
 
-layout:
-	rt fmt --check
-
-# The programs and the archive, each proved before it is built.
+# The programs and the archive, each proved before it is built; with BEGAN, from what `rt ci` has just left.
 built:
-	rt check run replay show line
-	rt staticlib cinder
+	tests/build.sh $(BEGAN)
 
 outside: built
 	tests/run_cases.sh

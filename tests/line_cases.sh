@@ -1,6 +1,6 @@
 #!/bin/sh
 # Runs the line program on inputs whose lines ticket e gives, and compares what it prints. Exits with 1 where one differs.
-# Usage: tests/line_cases.sh [PROGRAM]    (default target/bin/line, which `rt check line` builds)
+# Usage: tests/line_cases.sh [PROGRAM]    (default target/bin/line, which `make built` puts there)
 set -eu
 name=line
 program=${1:-target/bin/line}

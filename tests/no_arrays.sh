@@ -1,32 +1,33 @@
 #!/usr/bin/env bash
-# Shows by the compiler's own listing (`rt mir`) that writing a packet makes no array: neither the C call nor what it calls has a local
-# that holds one. Then applies each edit of tests/listing/edits to a copy of its crate, whose listing must be refused with the line that
+# Shows by the compiler's own listing that writing a packet makes no array: neither the C call nor what it calls has a local that holds one.
+# The listing is the file toolchain/mir.json that the compiler writes of each library that it builds: the code that the proofs are about,
+# and from which programs and archives are compiled. The archive's crate is built as such a library once more, for its listing. Then each
+# edit of tests/listing/edits is applied to a copy of its crate, which is still proved, and whose listing must be refused with the line that
 # the edit expects. Exits with 1 where packet writing is refused or an edit is not.
-# Usage: tests/no_arrays.sh    (after `rt check` or `rt ci`, so that the crates are proved)
+# Usage: tests/no_arrays.sh    (after `make built`, so that the libraries stand built in crates/*/out)
 set -euo pipefail
 cd "$(dirname "$0")/.."
-repository=$PWD
-room=$repository/target/listing
-export CARGO_TARGET_DIR=$repository/target/cargo
+. tests/kit.sh
+# Outside the checkout, in which rt wants no files of Rattle but those of the crates.
+room=$(mktemp -d)
+trap 'rm -rf "$room"' EXIT
+export CARGO_TARGET_DIR=$PWD/target/cargo
 writer=cinder::write_call::cinder_packet_encode
 
-# judge CRATE ROOT: prints the functions that ROOT reaches in CRATE's listing, then the faults; fails where there is one. The current
-# folder says in which repository.
-judge() {
-    rt mir "$1" >"$room/text" 2>"$room/progress" || { tail -n 5 "$room/progress"; return 1; }
-    "$CARGO_TARGET_DIR/release/listing" "$2" <"$room/text"
+# library CRATE FOLDER OUT: builds the crate whose files stand in FOLDER as a library, over what was checked of it here before.
+library() {
+    mkdir -p "$room/kept/$1"
+    compile "$1" "$2" "$3" --incremental "$room/kept/$1" >"$room/log" 2>&1 || { grep -m 5 '^error' "$room/log" || tail -n 5 "$room/log"; return 1; }
 }
 
-# copy_of CRATE FOLDER: a repository in which CRATE is a copy. The other crates and their proofs are links: rt has found them unchanged
-# for the listing without the edit, so it writes nothing through the links.
-copy_of() {
-    mkdir -p "$2/crates" "$2/target" &&
-        cp crates.txt "$2" &&
-        ln -s "$repository"/crates/* "$2/crates" &&
-        rm "$2/crates/$1" &&
-        cp -R "crates/$1" "$2/crates" &&
-        cp -R target/stamp "$2/target" &&
-        ln -s "$repository/target/rlib" "$2/target"
+# judge ROOT CRATE LIBRARY: prints the functions that ROOT reaches, then the faults; fails where there is one. CRATE's listing is that of
+# LIBRARY, of each other crate that of the library as it stands.
+judge() {
+    local other files=("$3/toolchain/mir.json")
+    for other in "$room/cinder.rlib" crates/*/out/rlib/*.rlib; do
+        [[ $(basename "$other" .rlib) == "$2" ]] || files+=("$other/toolchain/mir.json")
+    done
+    "$CARGO_TARGET_DIR/release/listing" "$1" "${files[@]}"
 }
 
 # replace FILE OLD NEW: fails unless OLD stands in FILE exactly once.
@@ -61,12 +62,15 @@ field() {
 
 # try_edit NAME: prints the expected line, or fails and prints why. In `expect:`, * stands for any text.
 try_edit() {
-    local edit=tests/listing/edits/$1.edit copy=$room/$1 crate root expect line lines
+    local edit=tests/listing/edits/$1.edit copy=$room/$1 whole crate root expect line lines
     crate=$(field crate "$edit") root=$(field root "$edit") expect=$(field expect "$edit")
     [[ $crate && $root && $expect ]] || { echo 'it lacks a line crate:, root: or expect:' && return 1; }
-    lines=$(judge "$crate" "$root") || { echo "refused without the edit: $lines" && return 1; }
-    { copy_of "$crate" "$copy" && apply "$edit" "$copy/crates/$crate"; } || return
-    if lines=$(cd "$copy" && judge "$crate" "$root"); then
+    whole=$room/$crate.rlib
+    [[ -d $whole ]] || whole=crates/$crate/out/rlib/$crate.rlib
+    lines=$(judge "$root" "$crate" "$whole") || { echo "refused without the edit: $lines" && return 1; }
+    mkdir "$copy" && cp -R "crates/$crate"/{src,specs,proofs} "$copy" && apply "$edit" "$copy" || return
+    lines=$(library "$crate" "$copy" "$copy.rlib") || { echo "not proved with the edit: $lines" && return 1; }
+    if lines=$(judge "$root" "$crate" "$copy.rlib"); then
         echo 'NOT REFUSED'
         return 1
     fi
@@ -81,13 +85,12 @@ try_edit() {
     return 1
 }
 
-rm -rf "$room"
-mkdir -p "$room"
 cargo build --release --offline --quiet --manifest-path tests/Cargo.toml --package listing
+library cinder crates/cinder "$room/cinder.rlib"
 
 failed=0
 refused=0
-judge cinder "$writer" | tee "$room/reached" || failed=1
+judge "$writer" cinder "$room/cinder.rlib" | tee "$room/reached" || failed=1
 # The C call itself writes nothing: what does must be among the functions.
 grep -q '^packet_encode::encode: .* locals$' "$room/reached" || { echo 'packet_encode::encode is not reached' && failed=1; }
 for edit in tests/listing/edits/*.edit; do

@@ -1,6 +1,6 @@
 #!/bin/sh
 # Runs the run program on inputs whose lines 01 gives, and compares what it prints. Exits with 1 where one differs.
-# Usage: tests/run_cases.sh [PROGRAM]    (default target/bin/run, which `rt check run` builds)
+# Usage: tests/run_cases.sh [PROGRAM]    (default target/bin/run, which `make built` puts there)
 set -eu
 name=run
 program=${1:-target/bin/run}

@@ -1,6 +1,6 @@
 #!/bin/sh
 # Runs the show program on inputs whose lines 01 and 02 give, and compares what it prints. Exits with 1 where one differs.
-# Usage: tests/show_cases.sh [PROGRAM]    (default target/bin/show, which `rt check show` builds)
+# Usage: tests/show_cases.sh [PROGRAM]    (default target/bin/show, which `make built` puts there)
 set -eu
 name=show
 program=${1:-target/bin/show}

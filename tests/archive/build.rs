@@ -15,7 +15,7 @@ fn main() {
     };
     let archive = folder.join("libcinder.a");
     if !archive.is_file() {
-        eprintln!("no archive at {}: build it with `rt staticlib cinder`", archive.display());
+        eprintln!("no archive at {}: build it with `make built` at the top", archive.display());
         std::process::exit(1);
     }
     println!("cargo:rerun-if-changed={}", archive.display());

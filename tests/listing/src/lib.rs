@@ -1,7 +1,8 @@
-//! The compiler's listing of a crate and of all that it depends on, as `rt mir` prints it:
-//! the functions that one function reaches by its calls, and whether one of them makes an
-//! array: has a local that holds one by value, or moves one through a pointer. What is not
-//! understood is a fault.
+//! The compiled code of some crates, as `rattle build` writes it into each library's folder
+//! (`toolchain/mir.json`), from where a program or an archive is linked: the functions that
+//! one function reaches by its calls, and whether one of them makes an array: has a local
+//! that holds one by value, or moves one through a pointer. What is not understood is a
+//! fault.
 
 mod body;
 mod tree;
@@ -11,6 +12,7 @@ mod values;
 use std::collections::{BTreeMap, BTreeSet};
 use tree::{Node, Tree};
 
+#[derive(Default)]
 pub struct Listing<'t> {
     tree: Tree<'t>,
     functions: BTreeMap<&'t str, Function<'t>>,
@@ -31,10 +33,25 @@ pub struct Reached {
 }
 
 impl<'t> Listing<'t> {
-    pub fn parse(text: &'t str) -> Result<Listing<'t>, &'static str> {
-        let tree = Tree::parse(text)?;
-        let functions = functions_of(&tree)?;
-        Ok(Listing { tree, functions })
+    /// The functions of all these texts, one of each crate.
+    pub fn parse(texts: &[&'t str]) -> Result<Listing<'t>, &'static str> {
+        let mut listing = Listing::default();
+        for text in texts {
+            let list = listing.tree.parse(text)?;
+            listing.add(list)?;
+        }
+        Ok(listing)
+    }
+
+    fn add(&mut self, list: Node) -> Result<(), &'static str> {
+        for &pair in self.tree.members(list).ok_or("its functions are no list")? {
+            let (name, function) =
+                function_of(&self.tree, pair).ok_or("a function is of unknown form")?;
+            if self.functions.insert(name, function).is_some() {
+                return Err("a function stands in it twice");
+            }
+        }
+        Ok(())
     }
 
     /// Goes through what `root` reaches.
@@ -74,42 +91,18 @@ impl<'t> Listing<'t> {
     }
 }
 
-fn functions_of<'t>(tree: &Tree<'t>) -> Result<BTreeMap<&'t str, Function<'t>>, &'static str> {
-    let &[program, list, main] = tree.top() else {
-        return Err("it is not `program`, functions and a main function");
-    };
-    if !matches!(tree.applied(program), Some(("program", []))) {
-        return Err("it does not begin with `program`");
-    }
-    if !matches!(tree.applied(main), Some(("fnRef", [_]))) {
-        return Err("it does not end with a main function");
-    }
-    let mut functions = BTreeMap::new();
-    for node in tree.members(list, "lcons", "lnil").ok_or("its functions are no list")? {
-        let (name, function) = function_of(tree, node).ok_or("a function is of unknown form")?;
-        if functions.insert(name, function).is_some() {
-            return Err("a function stands in it twice");
-        }
-    }
-    Ok(functions)
-}
-
-fn function_of<'t>(tree: &Tree<'t>, node: Node) -> Option<(&'t str, Function<'t>)> {
-    let ("fn-def", &[name, item, ref types @ ..]) = tree.applied(node)? else { return None };
-    let ("fnItem", &[_, _, _, locals, body]) = tree.applied(item)? else { return None };
+fn function_of<'t>(tree: &Tree<'t>, pair: Node) -> Option<(&'t str, Function<'t>)> {
+    let &[name, item] = tree.members(pair)? else { return None };
+    let names = ["lifetimes", "outlives", "params", "generics", "types", "locals", "body"];
+    let [_, _, _, _, types, locals, body] = tree.fields(item, names)?;
     let mut function = Function { locals: Vec::new(), body, described: BTreeMap::new() };
-    for local in tree.members(locals, "lcons", "lnil")? {
-        let ("local", &[local_type, _]) = tree.applied(local)? else { return None };
+    for &local in tree.members(locals)? {
+        let [local_type, _] = tree.fields(local, ["ty", "home"])?;
         function.locals.push(local_type);
     }
-    let types = match *types {
-        [] => Vec::new(),
-        [list] => tree.members(list, "lcons", "lnil")?,
-        _ => return None,
-    };
-    for pair in types {
-        let ("pair", &[name, shape]) = tree.applied(pair)? else { return None };
-        if function.described.insert(tree.text(name)?, shape).is_some() {
+    for &described in tree.members(types)? {
+        let (name, shape) = types::described(tree, described)?;
+        if function.described.insert(name, shape).is_some() {
             return None;
         }
     }

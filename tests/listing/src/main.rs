@@ -1,16 +1,17 @@
-//! Reads a listing on standard input and prints each function that ROOT reaches, with its
+//! Reads the listings of some crates and prints each function that ROOT reaches, with its
 //! number of locals, then each fault. Exits with 1 where there is a fault.
 
 use listing::Listing;
+use std::fs;
 use std::process::ExitCode;
 
 fn main() -> ExitCode {
     let words: Vec<String> = std::env::args().skip(1).collect();
-    let [root] = &words[..] else {
-        eprintln!("usage: listing ROOT < LISTING");
+    let [root, files @ ..] = &words[..] else {
+        eprintln!("usage: listing ROOT MIR.json ..");
         return ExitCode::from(2);
     };
-    match faults(root) {
+    match faults(root, files) {
         Ok(faults) if faults.is_empty() => ExitCode::SUCCESS,
         Ok(faults) => {
             faults.iter().for_each(|fault| println!("{fault}"));
@@ -24,9 +25,13 @@ fn main() -> ExitCode {
 }
 
 /// Prints the functions that are reached, and answers the faults.
-fn faults(root: &str) -> Result<Vec<String>, String> {
-    let text = std::io::read_to_string(std::io::stdin()).map_err(|error| error.to_string())?;
-    let reached = Listing::parse(&text)?.reach(root);
+fn faults(root: &str, files: &[String]) -> Result<Vec<String>, String> {
+    let mut texts = Vec::new();
+    for file in files {
+        texts.push(fs::read_to_string(file).map_err(|error| format!("{file}: {error}"))?);
+    }
+    let texts: Vec<&str> = texts.iter().map(String::as_str).collect();
+    let reached = Listing::parse(&texts)?.reach(root);
     for (name, locals) in &reached.functions {
         println!("{name}: {locals} locals");
     }

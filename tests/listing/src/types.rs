@@ -11,15 +11,17 @@ pub fn fault(tree: &Tree, described: &BTreeMap<&str, Node>, local: Node) -> Opti
     let mut met = BTreeSet::new();
     while let Some((held_type, within)) = held.pop() {
         match tree.applied(held_type) {
-            Some(("tyInt" | "tyFloat", [_]) | ("tyBool" | "tyUnit" | "tyPtr", [])) => {}
-            Some(("tyRef", [_, _, _])) => {}
-            Some(("tyArray", [_, _])) => return Some(array_fault(within)),
-            Some(("tyStruct", &[_, fields])) => match tree.members(fields, "tcons", "tnil") {
-                Some(fields) => held.extend(fields.into_iter().map(|field| (field, within))),
+            Some(("Int" | "Float", [_]) | ("Bool" | "Unit" | "Ptr", [])) => {}
+            Some(("Ref", [_, _, _])) => {}
+            Some(("Array", [_, _])) => return Some(array_fault(within)),
+            Some(("Struct", &[_, fields])) => match tree.members(fields) {
+                Some(fields) => held.extend(fields.iter().map(|&field| (field, within))),
                 None => return Some(form_fault(within)),
             },
-            Some(("tyNamed", &[head])) => {
-                let Some(name) = name_of(tree, head) else { return Some(form_fault(within)) };
+            Some(("Named", &[head, types])) => {
+                let Some(name) = name_of(tree, head, types) else {
+                    return Some(form_fault(within));
+                };
                 if !met.insert(name) {
                     continue;
                 }
@@ -53,26 +55,46 @@ fn form_fault(within: Option<&str>) -> String {
     }
 }
 
-/// The name of a named type. Its arguments can only be lifetimes, which hold nothing.
-fn name_of<'t>(tree: &Tree<'t>, head: Node) -> Option<&'t str> {
-    let ("pair", &[name, lifetimes]) = tree.applied(head)? else { return None };
-    for lifetime in tree.members(lifetimes, "lcons", "lnil")? {
-        let (("named" | "boundLv", [_]) | ("static" | "erased", [])) = tree.applied(lifetime)?
-        else {
+/// The name of a named type that takes no types. The lifetimes that it takes hold nothing.
+fn name_of<'t>(tree: &Tree<'t>, head: Node, types: Node) -> Option<&'t str> {
+    let [name, lifetimes] = tree.fields(head, ["name", "lifetimes"])?;
+    for &lifetime in tree.members(lifetimes)? {
+        let (("Named" | "Bound", [_]) | ("Static" | "Erased", [])) = tree.applied(lifetime)? else {
             return None;
         };
     }
-    tree.text(name)
+    match tree.members(types)? {
+        [] => tree.text(name),
+        _ => None,
+    }
+}
+
+/// The name and the shape of a type, as a function describes it.
+pub fn described<'t>(tree: &Tree<'t>, described: Node) -> Option<(&'t str, Node)> {
+    let names = [
+        "name",
+        "lifetimes",
+        "bounds",
+        "type_params",
+        "const_params",
+        "type_bounds",
+        "owns",
+        "is_cell",
+        "shape",
+        "is_tuple",
+    ];
+    let [name, _, _, _, _, _, _, _, shape, _] = tree.fields(described, names)?;
+    Some((tree.text(name)?, shape))
 }
 
 /// The types of a struct's fields, or of the fields of all of an enum's variants.
 fn fields_of(tree: &Tree, shape: Node) -> Option<Vec<Node>> {
     match tree.applied(shape)? {
-        ("fields", &[fields]) => tree.members(fields, "tcons", "tnil"),
-        ("variants", &[variants]) => {
+        ("Fields", fields) => Some(fields.to_vec()),
+        ("Variants", variants) => {
             let mut all = Vec::new();
-            for fields in tree.members(variants, "ttcons", "ttnil")? {
-                all.extend(tree.members(fields, "tcons", "tnil")?);
+            for &fields in variants {
+                all.extend(tree.members(fields)?);
             }
             Some(all)
         }
