@@ -12,7 +12,7 @@ use lib.Seq.{sets, length-sets, drop-append-add, drop-drop}
 use borrow.Author.Tests.{ltb-false}
 use Rattle.wire.specs.Area.{over}
 use Rattle.wire.proofs.Buffers.{sets-front}
-use Rattle.list.specs.Limits.{list_limit, depth_limit, row_room, store_room}
+use Rattle.list.specs.Limits.{list_limit, depth_limit}
 use Rattle.list.specs.Kind.{list_code}
 use Rattle.list.specs.Tree.{Elements, none}
 use Rattle.list.specs.Bytes.{list_bytes}

@@ -3,7 +3,6 @@ use Prim.Native.Nat.{ℕ, suc, ◌+◌, ◌*◌, ◌^◌, ◌≤◌, ◌<◌}
 use mathlib.Core.Path.{◌≡◌, refl, sym, ap, ◌∙◌}
 use mathlib.Core.Bool.{Bool, true, false, cond}
 use mathlib.Core.List.{List, [], ◌∷◌, ◌++◌, append_assoc}
-use mathlib.Core.Option.{some}
 use native.Mathlib.Omega.{arith}
 use lib.Dec.{eqb}
 use lib.ListN.{length, get_or, drop, length-append}
@@ -11,7 +10,7 @@ use lib.Seq.{sets, length-sets}
 use borrow.Author.Tests.{ne_eqb}
 use Rattle.digits.specs.Read.{Read, got}
 use Rattle.wire.proofs.Buffers.{sets_more}
-use Rattle.list.specs.Limits.{list_limit, row_room, store_room}
+use Rattle.list.specs.Limits.{list_limit, row_room}
 use Rattle.list.specs.Kind.{list_code}
 use Rattle.list.specs.Tree.{Value, Elements, int}
 use Rattle.list.specs.Bytes.{number}
@@ -23,7 +22,7 @@ use Rattle.text.specs.Read.{value_at}
 use Rattle.text.specs.Tokens.{Token, opening, closing, item, opens}
 use Rattle.text_decode.specs.declared.element.Cursor.{Cursor}
 use Rattle.text_decode.specs.declared.fill.Place.{Place}
-use Rattle.text_decode.specs.Fill.{Frame, frame, Filling, filling, closed_in, placed, filled, size_of, outer_of, numbers_of, frames_of}
+use Rattle.text_decode.specs.Fill.{Frame, frame, Filling, closed_in, placed, filled, size_of, outer_of, numbers_of, frames_of}
 use Rattle.text_decode.specs.Pieces.{cursor, read_or, size_read, Countable, counted_one, closed_at, around_at, behind_space, ValueHere, ValuePut}
 use Rattle.text_decode.specs.Stage.{place, whole_of, Stage, Ready, Goes}
 use Rattle.text_decode.proofs.Fillings.{numbers-size, filled-grows, placed-few}
