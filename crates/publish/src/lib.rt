@@ -20,7 +20,7 @@ pub enum Published {
 
 // The table as one list at the front of the buffer, or error 20.
 pub fn write_list(catalogue: &[u8], table: &[u8], buffer: &mut [u8]) -> Published
-    ensures* { λ r. ⌜ record { result = result_of r; buffer = buffer.new } ≡ written_of catalogue.now table.now buffer.old ⌝ }
+    ensures { record { result = result_of result; buffer = buffer.new } ≡ written_of catalogue.now table.now buffer.old }
 {
     if buffer.len() < LIST_LIMIT {
         return Published::Refused(20);
