@@ -16,7 +16,7 @@ use list::Refusal;
 
 // Where the value of a key stands: the number of the refusal, 0 for none, the list, and there the offset and the length of
 // the value or the offset of the fault and how many lists are open at it.
-#[derive(Drop)]
+#[derive(Clone, Copy)]
 pub struct Located {
     pub error: u8,
     pub list: u8,
@@ -131,7 +131,7 @@ pub fn locate(guest: &[u8], house: &[u8], key: &[u8]) -> Located
     look_up(guest, house, key)
 }
 
-// That part of the list that an answer names. Both lists have one lifetime here, so the borrow checker covers the function.
+// That part of the list that an answer names. Both lists have one lifetime here.
 fn part<'g>(guest: &'g [u8], house: &'g [u8], at: Located) -> &'g [u8]
     requires { Within at (length guest.now) (length house.now) }
     ensures { result.now ≡ part_of at guest.now house.now }
@@ -146,9 +146,8 @@ fn part<'g>(guest: &'g [u8], house: &'g [u8], at: Located) -> &'g [u8]
     &guest[0..0]
 }
 
-// The value of a key: that part of the guest's list, else that part of the house's, and empty on a refusal. It is proved by
-// hand: the borrow checker covers no function that makes a struct with a reference in it. Where `part` is called, the house's
-// list is taken at the shorter lifetime 'g.
+// The value of a key: that part of the guest's list, else that part of the house's, and empty on a refusal. Where `part` is
+// called, the house's list is taken at the shorter lifetime 'g.
 pub fn find<'g, 'h: 'g>(guest: &'g [u8], house: &'h [u8], key: &[u8]) -> Setting<'g>
     ensures { answer result.error result.list result.offset result.part.now result.depth
         ≡ answer_of guest.now house.now (lookup guest.now house.now key.now) }
