@@ -8,8 +8,7 @@ use Rattle.slot.specs.Row.{head_of}
 use Rattle.slot.specs.declared.Slot.{Slot}
 use Rattle.slot.specs.declared.Head.{Head}
 use Rattle.attach.specs.Attach.{uid_elsewhere}
-use Rattle.attach.proofs.is_elsewhere.Statement.{statement}
-use Rattle.attach.proofs.is_elsewhere.Tie as tie
+use Rattle.attach.proofs.is_elsewhere.Goals as goal
 
 -- the test goes by the head alone
 by-head :
@@ -18,14 +17,11 @@ by-head :
 unfolding uid_elsewhere
 by-head h s socket uid e = ap (λ (x : Head). x.taken && (not (eqb x.socket socket) && eqb x.uid uid)) e
 
-returns : tie.Need-returns
-returns c s e = rw (← by-head _ s _ _ e, c.before.before.if1.true, eq-eqb _ _ c.if2.true)
+pub returns-then-h-socket : goal.returns-then-h-socket
+returns-then-h-socket c s e = rw (← by-head _ s _ _ e, c.if-h.true, eq-eqb _ _ c.if-h-socket.true)
 
-returns-2 : tie.Need-returns-2
-returns-2 c s e = rw (← by-head _ s _ _ e, c.before.before.before.if1.true, ne_eqb _ _ c.before.if2.false)
+pub returns-then-h : goal.returns-then-h
+returns-then-h c s e = rw (← by-head _ s _ _ e, c.if-h.true, ne_eqb _ _ c.if-h-socket.false)
 
-returns-3 : tie.Need-returns-3
-returns-3 c s e = rw (← by-head _ s _ _ e, c.if1.false)
-
-pub is-elsewhere-spec : {M : Type 1} → statement M
-is-elsewhere-spec = tie.close (tie.spec returns returns-2 returns-3)
+pub returns : goal.returns
+returns c s e = rw (← by-head _ s _ _ e, c.if-h.false)
