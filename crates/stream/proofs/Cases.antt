@@ -34,5 +34,6 @@ pub cases :
     ≡ accepted 40 9 0 ∷ refused (refusal 20 0) ∷ accepted 72 10 16 ∷ ended ∷ ended ∷ [])
     × (answers (series (run ++ (0 ∷ 0 ∷ [])) 0 (enough ∷ enough ∷ enough ∷ []))
     ≡ accepted 40 9 0 ∷ accepted 72 10 16 ∷ refused (refusal 21 112) ∷ [])
-unfolding has_zero same kind_of code_for item_fault string_at blob_at value_at typed_at is_list_code coded_at mixed_at body_at list_at parse unpacked roomy decoding_of step_of series
+unfolding has_zero same kind_of code_for item_fault string_at blob_at value_at typed_at is_list_code coded_at mixed_at body_at list_at parse
+    unpacked roomy decoding_of step_of series
 cases = (refl, refl)

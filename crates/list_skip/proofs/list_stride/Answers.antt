@@ -19,7 +19,8 @@ returns-in-268 c =
 
 pub returns-in_default : goal.returns-in_default
 returns-in_default c =
-    sym (list-other c.args.s.now _ _ _ (each-kind (λ k. c.args.code ≡ typed_code k → ⊥) (λ e. omega arith) (λ e. omega arith) (λ e. omega arith) (λ e. omega arith) (λ e. omega arith)))
+    sym (list-other c.args.s.now _ _ _
+    (each-kind (λ k. c.args.code ≡ typed_code k → ⊥) (λ e. omega arith) (λ e. omega arith) (λ e. omega arith) (λ e. omega arith) (λ e. omega arith)))
 
 pub returns-in-257 : goal.returns-in-257
 returns-in-257 c = c.up_to.ensures ∙ sym (list-typed c.args.s.now Int _ _ _ c.in-257.is)
