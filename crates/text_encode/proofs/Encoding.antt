@@ -1,7 +1,7 @@
 -- What the call answers, case by case, is what is promised.
 use Prim.Native.Nat.{ℕ, ◌-◌, ◌≤◌, ◌<◌}
 use mathlib.Core.Path.{◌≡◌, sym, ap, ◌∙◌}
-use mathlib.Core.Bool.{Bool, true, false}
+use mathlib.Core.Bool.{true, false}
 use mathlib.Core.List.{List}
 use native.Mathlib.Omega.{arith}
 use lib.ListN.{length}
@@ -9,7 +9,7 @@ use lib.Seq.{sets}
 use borrow.Author.Tests.{lt-ltb, le-ltb}
 use Rattle.wire.specs.Number.{Bytes}
 use Rattle.wire.proofs.Buffers.{sets-front}
-use Rattle.list.specs.Limits.{list_limit, depth_limit}
+use Rattle.list.specs.Limits.{depth_limit}
 use Rattle.list.specs.Tree.{Elements}
 use Rattle.list.specs.Legal.{LegalElements}
 use Rattle.list.specs.RowBytes.{unpacked}

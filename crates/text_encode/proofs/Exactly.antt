@@ -21,7 +21,7 @@ use Rattle.list_rows.specs.Described.{list_in}
 use Rattle.list_rows.specs.Judge.{Verdict, accepted, depth, fitting, judged, to_write}
 use Rattle.list_rows.specs.Judge as judge
 use Rattle.list_rows.proofs.Legality.{legal-listed}
-use Rattle.list_encode.specs.Encode.{Result, outcome, written, refused}
+use Rattle.list_encode.specs.Encode.{outcome, written, refused}
 use Rattle.text.specs.Text.{text_room, list_text}
 use Rattle.text.specs.Form.{all_have_form, WithText}
 use Rattle.text.proofs.Readings.{form-exactly}

@@ -1,0 +1,12 @@
+-- `text_encode::emit::open_list` meets its contract.
+use native.Mathlib.Omega.{arith}
+use Rattle.list.proofs.RowBytes.{unpacked-length}
+use Rattle.text_encode.proofs.emit.open_list.Goals as goal
+
+pub overflow_add-result : goal.overflow_add-result
+overflow_add-result c = omega (arith, c.requires.0, unpacked-length c.args.rows.now)
+
+pub returns : goal.returns
+returns c =
+    let w = c.put_char-end.ensures in
+    (w.0, rw (w.1, c.row_at-row.ensures))

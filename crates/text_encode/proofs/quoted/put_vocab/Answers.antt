@@ -1,0 +1,37 @@
+-- `text_encode::quoted::put_vocab` meets its contract: a piece between two characters.
+use mathlib.Core.Path.{refl}
+use mathlib.Core.List.{[], ◌∷◌, ◌++◌}
+use native.Mathlib.Omega.{arith}
+use borrow.Author.Rules.{rules}
+use Rattle.text.specs.Text.{letters}
+use Rattle.text_encode.proofs.Writing.{left-room, left_end, first-put, enclosed}
+use Rattle.text_encode.proofs.quoted.put_vocab.Goals as goal
+
+pub put_letters-end-requires : goal.put_letters-end-requires
+put_letters-end-requires c =
+    let a = c.args in
+    left-room (letters a.bits) (93 ∷ []) (first-put a.text.now a.at 91 (letters a.bits ++ (93 ∷ [])) c.requires) refl
+
+pub bounds-text-end : goal.bounds-text-end
+bounds-text-end c =
+    let a = c.args in
+    let l = enclosed a.text.now a.at 91 93 (letters a.bits) c.requires c.put_letters-end.ensures.0 c.put_letters-end.ensures.1 in
+    omega arith
+
+pub overflow_add-result : goal.overflow_add-result
+overflow_add-result c =
+    let a = c.args in
+    let l = enclosed a.text.now a.at 91 93 (letters a.bits) c.requires c.put_letters-end.ensures.0 c.put_letters-end.ensures.1 in
+    search rules
+
+pub shape_of-text : goal.shape_of-text
+shape_of-text c =
+    let a = c.args in
+    let l = enclosed a.text.now a.at 91 93 (letters a.bits) c.requires c.put_letters-end.ensures.0 c.put_letters-end.ensures.1 in
+    search rules
+
+pub returns : goal.returns
+returns c =
+    let a = c.args in
+    let l = enclosed a.text.now a.at 91 93 (letters a.bits) c.requires c.put_letters-end.ensures.0 c.put_letters-end.ensures.1 in
+    left_end l refl refl
