@@ -34,20 +34,25 @@ returns-then-packet-lt-PACKET_ROOM c = rw (c.refused.ensures, lt-ltb _ _ c.if-pa
 pub returns-then-not-is_line : goal.returns-then-not-is_line
 unfolding pushed
 returns-then-not-is_line c =
-    rw (c.refused-then-not-is_line.ensures, le-ltb _ _ c.if-packet-lt-PACKET_ROOM.false, sym c.is_line.ensures ∙ c.if-not-is_line.true)
+    let room : PACKET_ROOM ≤ length c.args.packet.now = omega arith in
+    rw (c.refused-then-not-is_line.ensures, le-ltb _ _ room, sym c.is_line.ensures ∙ c.if-not-is_line.true)
 
 pub enter-e-requires : goal.enter-e-requires
-enter-e-requires c = (sym c.is_line.ensures ∙ c.if-not-is_line.false, c.if-packet-lt-PACKET_ROOM.false)
+enter-e-requires c =
+    let room : PACKET_ROOM ≤ length c.args.packet.now = omega arith in
+    (sym c.is_line.ensures ∙ c.if-not-is_line.false, room)
 
 pub returns-then-not-e : goal.returns-then-not-e
 returns-then-not-e c =
+    let room : PACKET_ROOM ≤ length c.args.packet.now = omega arith in
     c.enter-e.ensures.found (not-true _ c.if-not-e.true)
-    ∙ answered _ c.args.bytes.now _ c.if-packet-lt-PACKET_ROOM.false (sym c.is_line.ensures ∙ c.if-not-is_line.false)
+    ∙ answered _ c.args.bytes.now _ room (sym c.is_line.ensures ∙ c.if-not-is_line.false)
 
 pub from_inside-p-requires : goal.from_inside-p-requires
 from_inside-p-requires c =
+    let room : PACKET_ROOM ≤ length c.args.packet.now = omega arith in
     let b = c.enter-e.ensures.begins (not-false _ c.if-not-e.false) in
-    (b.0, rw b.1 c.if-packet-lt-PACKET_ROOM.false)
+    (b.0, rw b.1 room)
 
 pub overflow_add-result : goal.overflow_add-result
 overflow_add-result c =
@@ -57,6 +62,7 @@ overflow_add-result c =
 
 pub returns : goal.returns
 returns c =
+    let room : PACKET_ROOM ≤ length c.args.packet.now = omega arith in
     let line = c.args.line.now in
     let bytes = c.args.bytes.now in
     let area = c.args.packet.now in
@@ -64,4 +70,4 @@ returns c =
     let b = c.enter-e.ensures.begins (not-false _ c.if-not-e.false) in
     further at area _ (inner line bytes area _ _ at b c.from_inside-p.ensures)
     ∙ ap (λ (t : Taken). outcome_of t area) (sym b.2)
-    ∙ answered line bytes area c.if-packet-lt-PACKET_ROOM.false (sym c.is_line.ensures ∙ c.if-not-is_line.false)
+    ∙ answered line bytes area room (sym c.is_line.ensures ∙ c.if-not-is_line.false)
