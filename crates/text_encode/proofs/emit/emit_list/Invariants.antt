@@ -12,7 +12,8 @@ use Rattle.text_encode.proofs.emit.emit_list.Given as goal
 
 abbrev pub invariant-loop-outer : goal.invariant-loop-outer
 invariant-loop-outer l =
-    Underway (unpacked l.rows) l.store (sets l.initial.text 0 (spell_list (unpacked l.rows) l.store)) (length (spell_list (unpacked l.rows) l.store)) l.text (stack_of l.outer l.level) l.x
+    Underway (unpacked l.rows) l.store (sets l.initial.text 0 (spell_list (unpacked l.rows) l.store))
+    (length (spell_list (unpacked l.rows) l.store)) l.text (stack_of l.outer l.level) l.x
     × (l.level < depth_limit) × (length l.outer ≡ depth_limit)
 
 abbrev pub decreases-loop-outer : goal.decreases-loop-outer
