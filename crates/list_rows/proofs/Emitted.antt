@@ -50,7 +50,8 @@ typed-or : (s : ℕ) → s ≤ list_code → typed_or s ≡ code_for s
 unfolding typed_or code_for
 typed-or s h = go (eqb s list_code) refl
   where
-    go : (b : Bool) → eqb s list_code ≡ b → cond (eqb s 0) list_code (cond (ltb s list_code) (list_code + s) list_code) ≡ cond (eqb s 0) list_code (cond b list_code (list_code + s))
+    go : (b : Bool) → eqb s list_code ≡ b
+        → cond (eqb s 0) list_code (cond (ltb s list_code) (list_code + s) list_code) ≡ cond (eqb s 0) list_code (cond b list_code (list_code + s))
     go true e = rw (eqb-true s list_code e)
     go false e = let n = eqb-false s list_code e in rw (lt-ltb s list_code (omega arith))
 

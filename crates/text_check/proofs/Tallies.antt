@@ -68,7 +68,8 @@ unfolding code_for
 added-own es = go (eqb (common_of 0 es) 0) refl (eqb (common_of 0 es) list_code) refl
   where
     go : (a : Bool) → eqb (common_of 0 es) 0 ≡ a → (b : Bool) → eqb (common_of 0 es) list_code ≡ b
-        → cond b (0 + length (element_bytes list_code es)) (length (element_bytes 0 es)) ≡ length (element_bytes (cond a list_code (cond b list_code (list_code + common_of 0 es))) es)
+        → cond b (0 + length (element_bytes list_code es)) (length (element_bytes 0 es))
+        ≡ length (element_bytes (cond a list_code (cond b list_code (list_code + common_of 0 es))) es)
     go true p true q = omega arith
     go true p false q = rw (none_seen es (eqb-true (common_of 0 es) 0 p))
     go false p true q = omega arith

@@ -8,7 +8,8 @@ use Rattle.text_value.proofs.digit.more_decimal.Given as goal
 
 abbrev pub invariant-loop-i : goal.invariant-loop-i
 invariant-loop-i l =
-    (more_decimal l.limit l.first 1 (drop l.at l.text) ≡ more_decimal l.limit l.value (l.i - l.at + 1) (drop l.i l.text)) × (l.at ≤ l.i) × (l.i ≤ length l.text) × (l.value < 2 ^ 32)
+    (more_decimal l.limit l.first 1 (drop l.at l.text) ≡ more_decimal l.limit l.value (l.i - l.at + 1) (drop l.i l.text))
+    × (l.at ≤ l.i) × (l.i ≤ length l.text) × (l.value < 2 ^ 32)
 
 abbrev pub decreases-loop-i : goal.decreases-loop-i
 decreases-loop-i l = length l.text - l.i
