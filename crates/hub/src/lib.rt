@@ -53,7 +53,7 @@ pub fn read_parameter(catalogue: &[u8], table: &[u8], socket: u64, index: u64) -
 
 // The table as one list at the front of the buffer, or error 11, 9 or 20.
 pub fn publish(catalogue: &[u8], table: &[u8], buffer: &mut [u8]) -> Published
-    ensures* { λ r. ⌜ record { result = result_of r; buffer = buffer.new } ≡ publish_of catalogue.now table.now buffer.old ⌝ }
+    ensures { record { result = result_of result; buffer = buffer.new } ≡ publish_of catalogue.now table.now buffer.old }
 {
     if !catalogue::is_legal(catalogue) {
         return Published::Refused(11);
