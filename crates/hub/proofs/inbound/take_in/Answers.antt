@@ -3,6 +3,7 @@ use Prim.Native.Nat.{ℕ, ◌+◌, ◌-◌, ◌≤◌}
 use mathlib.Core.Path.{◌≡◌, refl, sym, ap, ◌∙◌}
 use mathlib.Core.List.{List}
 use native.Mathlib.Omega.{arith}
+use Rattle.std.proofs.Common.{◌≢◌}
 use lib.ListN.{length, take, drop, replicate}
 use borrow.Author.Tests.{ne_eqb}
 use Rattle.packet.specs.declared.Answer.{Answer}
@@ -68,6 +69,9 @@ pub returns-in_default-message_type : goal.returns-in_default-message_type
 unfolding by_type
 returns-in_default-message_type c =
     let a = c.args in
-    let r = c.in_default-message_type.in_default-message_type-own.rest in
-    rw (ne_eqb _ _ r.0.0.1, ne_eqb _ _ r.0.1, ne_eqb _ _ r.1)
+    let k = c.in-Packet.message_type in
+    let not-2 : k ≢ 2 = omega arith in
+    let not-4 : k ≢ 4 = omega arith in
+    let not-5 : k ≢ 5 = omega arith in
+    rw (ne_eqb _ _ not-2, ne_eqb _ _ not-4, ne_eqb _ _ not-5)
     at (arm a.bytes.now _ c.decode_into-a.ensures c.in-Packet.is a.catalogue.now a.table.now a.socket refl)
