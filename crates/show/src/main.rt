@@ -23,6 +23,7 @@ use text::TEXT_ROOM;
 
 // The numbers of the standard streams.
 const STDIN_FILENO: i32 = 0;
+
 const STDOUT_FILENO: i32 = 1;
 
 // A line has at most four characters for each byte of its list; behind the lines, the room that text writing asks for.
