@@ -16,6 +16,7 @@ use stream::Step;
 
 // The numbers of the standard streams.
 const STDIN_FILENO: i32 = 0;
+
 const STDOUT_FILENO: i32 = 1;
 
 // The longest line: three labels, 18 bytes together, three numbers of up to 20 digits and a newline.
