@@ -1,7 +1,3 @@
-
-// The numbers of the standard streams.
-const STDIN_FILENO: i32 = 0;
-const STDOUT_FILENO: i32 = 1;
 // Replays captured packets, lines as they arrived and other calls against one hub: records from standard input, a line of output for each,
 // and for a line one for each finding.
 #![tactic(auto)]
@@ -11,6 +7,10 @@ mod play;
 mod record;
 mod value_line;
 
+// The numbers of the standard streams.
+const STDIN_FILENO: i32 = 0;
+
+const STDOUT_FILENO: i32 = 1;
 
 // "over 65,536 bytes it prints `too long`": one byte more is read, to tell.
 const INPUT_LIMIT: usize = 65536;
