@@ -22,11 +22,21 @@ returns-then-code-eq-BLOB c = rw (ne_eqb _ _ c.if-code-eq-INT.false, ne_eqb _ _ 
 pub returns-then-code-eq-VOCAB : goal.returns-then-code-eq-VOCAB
 unfolding kind_of
 returns-then-code-eq-VOCAB c =
-    rw (ne_eqb _ _ c.if-code-eq-INT.false, ne_eqb _ _ c.if-code-eq-FLOAT.false, ne_eqb _ _ c.if-code-eq-STR.false, ne_eqb _ _ c.if-code-eq-BLOB.false,
-      eq-eqb _ _ c.if-code-eq-VOCAB.true)
+    rw (
+      ne_eqb _ _ c.if-code-eq-INT.false,
+      ne_eqb _ _ c.if-code-eq-FLOAT.false,
+      ne_eqb _ _ c.if-code-eq-STR.false,
+      ne_eqb _ _ c.if-code-eq-BLOB.false,
+      eq-eqb _ _ c.if-code-eq-VOCAB.true,
+    )
 
 pub returns : goal.returns
 unfolding kind_of
 returns c =
-    rw (ne_eqb _ _ c.if-code-eq-INT.false, ne_eqb _ _ c.if-code-eq-FLOAT.false, ne_eqb _ _ c.if-code-eq-STR.false, ne_eqb _ _ c.if-code-eq-BLOB.false,
-      ne_eqb _ _ c.if-code-eq-VOCAB.false)
+    rw (
+      ne_eqb _ _ c.if-code-eq-INT.false,
+      ne_eqb _ _ c.if-code-eq-FLOAT.false,
+      ne_eqb _ _ c.if-code-eq-STR.false,
+      ne_eqb _ _ c.if-code-eq-BLOB.false,
+      ne_eqb _ _ c.if-code-eq-VOCAB.false,
+    )
