@@ -34,12 +34,12 @@ bits_up (pos n) f h = rw (small n f.sfits) (tt, record { fits = omega (arith, f.
 bits_up (negsuc n) f h = never (ap (le_z (pos 0)) (sym (to_z-of_z w32 _ f)) ∙ h)
 
 -- a negative number's complement is not negative
-pub bits-down :
+pub bits_down :
     (z : ℤ) → SFits w32 z → le_z (pos 0) (to_z w32 (of_z w32 z)) ≡ false →
     T (non_neg (to_z w32 (4294967295 - of_z w32 z))) × Fits w32 (nat_abs (to_z w32 (4294967295 - of_z w32 z))) ×
     (nat_abs (to_z w32 (4294967295 - of_z w32 z)) ≤ 4294967295) × (4294967295 - nat_abs (to_z w32 (4294967295 - of_z w32 z)) ≡ of_z w32 z)
-bits-down (pos n) f h = never (sym h ∙ ap (le_z (pos 0)) (small n f.sfits) ∙ le-leb 0 n (omega arith))
-bits-down (negsuc n) f h =
+bits_down (pos n) f h = never (sym h ∙ ap (le_z (pos 0)) (small n f.sfits) ∙ le-leb 0 n (omega arith))
+bits_down (negsuc n) f h =
     let e : 4294967295 - (2 ^ 32 - suc n) ≡ n = omega (arith, f.sfits) in
     rw (e, small n f.sfits) (tt, record { fits = omega (arith, f.sfits) }, omega (arith, f.sfits), omega (arith, f.sfits))
 

@@ -28,6 +28,7 @@ pub fn int_of(bits: u32) -> i32
 }
 
 // The 32 bits of a signed number.
+#[tactic(auto, using(crate::proofs::Bits::bits_up, crate::proofs::Bits::bits_down))]
 pub fn int_bits(number: i32) -> u32
     ensures { result ≡ int_bits number }
 {
