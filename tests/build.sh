@@ -35,7 +35,7 @@ done
 
 echo 'building the archive'
 if are_libraries_new; then
-    compile cinder crates/cinder "$PWD/target/staticlib/libcinder.a" --crate-type staticlib
+    compile cinder crates/cinder "$PWD/target/staticlib/libcinder.a" --crate-type staticlib --incremental "$PWD/target/kept/cinder"
 else
     (cd crates/cinder && rt lib) && cp crates/cinder/out/libcinder.a target/staticlib
 fi >target/build.log 2>&1 || { tail -n 20 target/build.log; exit 1; }

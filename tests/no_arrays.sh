@@ -14,10 +14,9 @@ trap 'rm -rf "$room"' EXIT
 export CARGO_TARGET_DIR=$PWD/target/cargo
 writer=cinder::write_call::cinder_packet_encode
 
-# library CRATE FOLDER OUT: builds the crate whose files stand in FOLDER as a library, over what was checked of it here before.
+# library CRATE FOLDER OUT: builds the crate whose files stand in FOLDER as a library, over what was checked of it in target/kept before.
 library() {
-    mkdir -p "$room/kept/$1"
-    compile "$1" "$2" "$3" --incremental "$room/kept/$1" >"$room/log" 2>&1 || { grep -m 5 '^error' "$room/log" || tail -n 5 "$room/log"; return 1; }
+    compile "$1" "$2" "$3" --incremental "$PWD/target/kept/$1" >"$room/log" 2>&1 || { grep -m 5 '^error' "$room/log" || tail -n 5 "$room/log"; return 1; }
 }
 
 # judge ROOT CRATE LIBRARY: prints the functions that ROOT reaches, then the faults; fails where there is one. CRATE's listing is that of
