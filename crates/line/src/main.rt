@@ -18,6 +18,7 @@ use report::INPUT_LIMIT;
 
 // The numbers of the standard streams.
 const STDIN_FILENO: i32 = 0;
+
 const STDOUT_FILENO: i32 = 1;
 
 // The longest text line: three labels, 23 bytes together, three numbers of up to 20 digits and a newline.
