@@ -5,10 +5,13 @@ use mathlib.Core.Bool.{Bool, true, false, cond}
 use mathlib.Core.List.{List}
 use mathlib.Core.Logic.Iff
 use mathlib.Core.Logic.{◌≢◌, ◌↔◌}
-use mathlib.Core.Option.{Option, none, some}
+use mathlib.Core.Option as option
+use mathlib.Core.Option.{none, some}
 use native.Mathlib.Omega.{arith}
 use lib.ListN.{length, drop, length-drop}
 use lib.Seq.{take_all}
+use Rattle.std.specs.Prelude.{Option, Some, None}
+use Rattle.std.specs.Option.{is_some}
 use Rattle.wire.specs.Number.{le_bytes, Bytes}
 use Rattle.wire.proofs.ByteLists.{byte_small}
 use Rattle.catalogue.specs.Lookup.{device_of}
@@ -20,13 +23,11 @@ use Rattle.slot.proofs.Filling.{number-bytes, number_small}
 use Rattle.slot.proofs.Rows.{fresh-fits, same-slot}
 use Rattle.table.specs.Places.{table_size, holds, place_of, free_of, is_slot, row_of}
 use Rattle.table.specs.Change.{accepted, refused, refusal, acceptance, Change, becomes, denied}
-use Rattle.table.specs.declared.Place.{Place}
-use Rattle.table.specs.declared.Place.TheVariants.{At, Nowhere}
 use Rattle.table.proofs.Tests.{never}
 use Rattle.table.proofs.Searches.{none_free}
 use Rattle.table.proofs.Changes.{row_left, FitsChange, changed-others, changed-denied, changed-bytes, changed-accepted, denied-exactly, denied-refusal, leaves-accepted}
 use Rattle.attach.specs.Attach.{device_in, year_in, uid_in, ack_row, has_slot, acked, uid_free, or_free, place_for, ack_change, assigned}
-use Rattle.attach.proofs.Facts.{is_some, Elsewhere, uid-elsewhere, no_row, all-taken, has-place, slot-index, place-within, not-its-place}
+use Rattle.attach.proofs.Facts.{has_row, Elsewhere, uid-elsewhere, no_row, all-taken, has-place, slot-index, place-within, not-its-place}
 
 -- ACK's payload: type, year and UID
 abbrev pub ack_size : ℕ
@@ -43,8 +44,8 @@ abbrev pub denied_number : Change → ℕ
 denied_number (becomes row) = 0
 denied_number (denied number) = number
 
-has-none : (own : Option Slot) (a : Bool) → (has_slot own a ≡ false) ↔ ((own ≡ none) × (a ≡ false))
-has-none (some own) a = (λ h. never h, λ h. never (ap is_some h.0))
+has-none : (own : option.Option Slot) (a : Bool) → (has_slot own a ≡ false) ↔ ((own ≡ none) × (a ≡ false))
+has-none (some own) a = (λ h. never h, λ h. never (ap has_row h.0))
 has-none none a = (λ h. (refl, h), λ h. h.1)
 
 -- the answer by the three facts in their order
@@ -77,25 +78,25 @@ module _ (row : Slot) where
   is-row true true true other e = (sym (ap (row_left row) e), refl, refl, refl)
 
 -- an ACK judged by its socket's row, if there is one, and the two facts about the others
-module _ (c : List ℕ) (socket : ℕ) (own : Option Slot) (payload : List ℕ) (free any : Bool) where
+module _ (c : List ℕ) (socket : ℕ) (own : option.Option Slot) (payload : List ℕ) (free any : Bool) where
   -- LAW: 12 is given exactly where the type is not in the catalogue
-  pub ack-12 : (acked c socket own payload free any ≡ denied 12) ↔ ((device_of c (device_in payload)).known ≡ false)
+  pub ack-12 : (acked c socket own payload free any ≡ denied 12) ↔ (is_some (device_of c (device_in payload)) ≡ false)
   unfolding acked
-  ack-12 = (is-12 (ack_row socket payload) (device_of c (device_in payload)).known free (has_slot own any), λ k. rw k)
+  ack-12 = (is-12 (ack_row socket payload) (is_some (device_of c (device_in payload))) free (has_slot own any), λ k. rw k)
 
   -- LAW: 14 exactly where the type is known and the UID is at another socket
-  pub ack-14 : (acked c socket own payload free any ≡ denied 14) ↔ (((device_of c (device_in payload)).known ≡ true) × (free ≡ false))
+  pub ack-14 : (acked c socket own payload free any ≡ denied 14) ↔ ((is_some (device_of c (device_in payload)) ≡ true) × (free ≡ false))
   unfolding acked
-  ack-14 = (is-14 (ack_row socket payload) (device_of c (device_in payload)).known free (has_slot own any), λ h. rw (h.0, h.1))
+  ack-14 = (is-14 (ack_row socket payload) (is_some (device_of c (device_in payload))) free (has_slot own any), λ h. rw (h.0, h.1))
 
   -- LAW: 13 exactly where the type is known, the UID is at no other socket, the socket has no slot and none is free
   pub ack-13 :
       (acked c socket own payload free any ≡ denied 13) ↔
-      (((device_of c (device_in payload)).known ≡ true) × (free ≡ true) × (own ≡ none) × (any ≡ false))
+      ((is_some (device_of c (device_in payload)) ≡ true) × (free ≡ true) × (own ≡ none) × (any ≡ false))
   unfolding acked
   ack-13 = (
     λ e.
-        let p = is-13 (ack_row socket payload) (device_of c (device_in payload)).known free (has_slot own any) e in
+        let p = is-13 (ack_row socket payload) (is_some (device_of c (device_in payload))) free (has_slot own any) e in
         let n = (has-none own any).0 p.2 in (p.0, p.1, n.0, n.1),
     λ h. rw (h.0, h.1, (has-none own any).1 (h.2, h.3)),
   )
@@ -103,11 +104,11 @@ module _ (c : List ℕ) (socket : ℕ) (own : Option Slot) (payload : List ℕ) 
   -- LAW: the packet's row is left exactly where the type is known, the UID is at no other socket and there is a slot
   pub ack-leaves :
       (acked c socket own payload free any ≡ becomes (ack_row socket payload)) ↔
-      (((device_of c (device_in payload)).known ≡ true) × (free ≡ true) × (has_slot own any ≡ true))
+      ((is_some (device_of c (device_in payload)) ≡ true) × (free ≡ true) × (has_slot own any ≡ true))
   unfolding acked
   ack-leaves = (
     λ e.
-        let p = is-row (ack_row socket payload) (device_of c (device_in payload)).known free (has_slot own any) (ack_row socket payload) e in
+        let p = is-row (ack_row socket payload) (is_some (device_of c (device_in payload))) free (has_slot own any) (ack_row socket payload) e in
         (p.1, p.2, p.3),
     λ h. rw (h.0, h.1, h.2),
   )
@@ -115,7 +116,7 @@ module _ (c : List ℕ) (socket : ℕ) (own : Option Slot) (payload : List ℕ) 
   -- LAW: no other row is left
   pub ack-row : (row : Slot) → acked c socket own payload free any ≡ becomes row → row ≡ ack_row socket payload
   unfolding acked
-  ack-row row e = (is-row (ack_row socket payload) (device_of c (device_in payload)).known free (has_slot own any) row e).0
+  ack-row row e = (is-row (ack_row socket payload) (is_some (device_of c (device_in payload))) free (has_slot own any) row e).0
 
 fits-left : (x : Change) (row : Slot) → x ≡ becomes row → FitsChange x → Fits row
 fits-left x row e f = rw e at f
@@ -125,7 +126,7 @@ module _ (slots : ℕ) (c t : List ℕ) (socket : ℕ) (payload : List ℕ) wher
   -- LAW: the row of an ACK is what its type says
   pub ack-fits : socket < 256 → Bytes payload → FitsChange (ack_change slots c t socket payload)
   unfolding acked
-  ack-fits l b = go (device_of c (device_in payload)).known (uid_free slots t socket (uid_in payload)) (has_slot (row_of slots t socket) (is_slot (free_of slots t)))
+  ack-fits l b = go (is_some (device_of c (device_in payload))) (uid_free slots t socket (uid_in payload)) (has_slot (row_of slots t socket) (is_slot (free_of slots t)))
     where
       go : (k f s : Bool) → FitsChange (judge (ack_row socket payload) k f s)
       go false f s = tt
@@ -136,15 +137,15 @@ module _ (slots : ℕ) (c t : List ℕ) (socket : ℕ) (payload : List ℕ) wher
           (number_small uid_size payload 2 b)
 
   abbrev known : Bool
-  known = (device_of c (device_in payload)).known
+  known = is_some (device_of c (device_in payload))
 
-  abbrev place : Place
+  abbrev place : Option ℕ
   place = place_for slots t socket
 
   abbrev change : Change
   change = ack_change slots c t socket payload
 
-  abbrev own : Option Slot
+  abbrev own : option.Option Slot
   own = row_of slots t socket
 
   abbrev free : Bool
@@ -154,13 +155,13 @@ module _ (slots : ℕ) (c t : List ℕ) (socket : ℕ) (payload : List ℕ) wher
   any = is_slot (free_of slots t)
 
   -- LAW: an ACK is refused 12 exactly where its type is not in the catalogue
-  pub assigned-12 : ((assigned slots c t socket payload).verdict ≡ refused 12) ↔ ((device_of c (device_in payload)).known ≡ false)
+  pub assigned-12 : ((assigned slots c t socket payload).verdict ≡ refused 12) ↔ (is_some (device_of c (device_in payload)) ≡ false)
   assigned-12 = Iff.trans (denied-exactly t place change 12) (ack-12 c socket own payload free any)
 
   -- LAW: 14 exactly where the type is known and a device on another socket has the UID
   pub assigned-14 :
       ((assigned slots c t socket payload).verdict ≡ refused 14) ↔
-      (((device_of c (device_in payload)).known ≡ true) × Elsewhere slots t socket (uid_in payload))
+      ((is_some (device_of c (device_in payload)) ≡ true) × Elsewhere slots t socket (uid_in payload))
   assigned-14 =
       let d = denied-exactly t place change 14 in
       let j = ack-14 c socket own payload free any in
@@ -170,7 +171,7 @@ module _ (slots : ℕ) (c t : List ℕ) (socket : ℕ) (payload : List ℕ) wher
   -- LAW: 13 exactly where the type is known, no device on another socket has the UID, no slot holds the socket and all are taken
   pub assigned-13 :
       ((assigned slots c t socket payload).verdict ≡ refused 13) ↔
-      (((device_of c (device_in payload)).known ≡ true) × (uid_free slots t socket (uid_in payload) ≡ true) ×
+      ((is_some (device_of c (device_in payload)) ≡ true) × (uid_free slots t socket (uid_in payload) ≡ true) ×
       ((j : ℕ) → j < slots → holds (slot_at t j) socket ≡ false) × ((j : ℕ) → j < slots → (slot_at t j).taken ≡ true))
   assigned-13 =
       let d = denied-exactly t place change 13 in
@@ -182,13 +183,13 @@ module _ (slots : ℕ) (c t : List ℕ) (socket : ℕ) (payload : List ℕ) wher
   -- LAW: an ACK is accepted exactly where its type is known, no device on another socket has its UID and there is a slot for it
   pub assigned-accepted :
       ((assigned slots c t socket payload).verdict ≡ accepted) ↔
-      (((device_of c (device_in payload)).known ≡ true) × (uid_free slots t socket (uid_in payload) ≡ true) ×
-      ((i : ℕ) × (place_for slots t socket ≡ At i)))
+      ((is_some (device_of c (device_in payload)) ≡ true) × (uid_free slots t socket (uid_in payload) ≡ true) ×
+      ((i : ℕ) × (place_for slots t socket ≡ Some i)))
   assigned-accepted = (to, from)
     where
       to :
           (assigned slots c t socket payload).verdict ≡ accepted →
-          (known ≡ true) × (free ≡ true) × ((i : ℕ) × (place ≡ At i))
+          (known ≡ true) × (free ≡ true) × ((i : ℕ) × (place ≡ Some i))
       to e =
           let x = changed-accepted t place change e in
           let r = ack-row c socket own payload free any x.0 x.1 in
@@ -196,13 +197,13 @@ module _ (slots : ℕ) (c t : List ℕ) (socket : ℕ) (payload : List ℕ) wher
           (h.0, h.1, (slot-index place).0 (sym (has-place slots t socket) ∙ h.2))
 
       from :
-          (known ≡ true) × (free ≡ true) × ((i : ℕ) × (place ≡ At i)) → (assigned slots c t socket payload).verdict ≡ accepted
+          (known ≡ true) × (free ≡ true) × ((i : ℕ) × (place ≡ Some i)) → (assigned slots c t socket payload).verdict ≡ accepted
       from h =
           leaves-accepted t place change (ack_row socket payload)
           ((ack-leaves c socket own payload free any).1 (h.0, h.1, has-place slots t socket ∙ (slot-index place).1 h.2))
 
   -- LAW: where a row is left there is a slot for it
-  pub ack-place : (row : Slot) → ack_change slots c t socket payload ≡ becomes row → (i : ℕ) × (place_for slots t socket ≡ At i) × (i < slots)
+  pub ack-place : (row : Slot) → ack_change slots c t socket payload ≡ becomes row → (i : ℕ) × (place_for slots t socket ≡ Some i) × (i < slots)
   ack-place row e =
       let h = assigned-accepted.0 (leaves-accepted t place change row e) in
       let p = h.2 in
@@ -211,7 +212,7 @@ module _ (slots : ℕ) (c t : List ℕ) (socket : ℕ) (payload : List ℕ) wher
   -- LAW: an accepted ACK gives the slot socket, type, year and UID of the packet, and no values
   pub ack-placed :
       socket < 256 → Bytes payload → length t ≡ table_size slots → (assigned slots c t socket payload).verdict ≡ accepted →
-      (i : ℕ) × (place_for slots t socket ≡ At i) × (i < slots) ×
+      (i : ℕ) × (place_for slots t socket ≡ Some i) × (i < slots) ×
       (slot_at (assigned slots c t socket payload).table i ≡ ack_row socket payload)
   ack-placed l b n e =
       let h = assigned-accepted.0 e in
@@ -226,7 +227,7 @@ module _ (slots : ℕ) (c t : List ℕ) (socket : ℕ) (payload : List ℕ) wher
   ack-bytes l b h = changed-bytes t place change h (ack-fits l b)
 
   -- LAW: every slot but the one that the ACK is for is exactly as it was
-  pub ack-others : (j : ℕ) → place_for slots t socket ≢ At j → slot_at (assigned slots c t socket payload).table j ≡ slot_at t j
+  pub ack-others : (j : ℕ) → place_for slots t socket ≢ Some j → slot_at (assigned slots c t socket payload).table j ≡ slot_at t j
   ack-others = changed-others t place change
 
   -- LAW: the row of a device on another socket is exactly as it was
@@ -241,21 +242,21 @@ module _ (slots : ℕ) (c t : List ℕ) (socket : ℕ) (payload : List ℕ) wher
   ack-refused = changed-denied t place change
 
   -- LAW: 12 keeps the table
-  pub unknown-ack : (device_of c (device_in payload)).known ≡ false → assigned slots c t socket payload ≡ refusal t 12
+  pub unknown-ack : (is_some (device_of c (device_in payload))) ≡ false → assigned slots c t socket payload ≡ refusal t 12
   unknown-ack k = rw ((ack-12 c socket own payload free any).1 k) (denied-refusal t place 12)
 
   -- an ACK whose type is in the catalogue
-  module _ (k : (device_of c (device_in payload)).known ≡ true) where
+  module _ (k : (is_some (device_of c (device_in payload))) ≡ true) where
     -- LAW: an ACK whose UID is on no other socket is accepted where there is a slot for it
     pub ack-accepts :
-        (i : ℕ) → uid_free slots t socket (uid_in payload) ≡ true → place_for slots t socket ≡ At i →
+        (i : ℕ) → uid_free slots t socket (uid_in payload) ≡ true → place_for slots t socket ≡ Some i →
         assigned slots c t socket payload ≡ acceptance (with_slot t i (ack_row socket payload))
     ack-accepts i f e =
         rw (e, (ack-leaves c socket own payload free any).1 (k, f, has-place slots t socket ∙ ap is_slot e))
 
     -- LAW: a second ACK with a UID that is on no other socket is accepted in the socket's own slot, whether or not a slot is empty
     pub other-uid-ack :
-        (i : ℕ) → uid_free slots t socket (uid_in payload) ≡ true → place_of slots t socket ≡ At i →
+        (i : ℕ) → uid_free slots t socket (uid_in payload) ≡ true → place_of slots t socket ≡ Some i →
         assigned slots c t socket payload ≡ acceptance (with_slot t i (ack_row socket payload))
     other-uid-ack i f e = ack-accepts i f (ap (or_free slots t) e)
 
@@ -266,7 +267,7 @@ module _ (slots : ℕ) (c t : List ℕ) (socket : ℕ) (payload : List ℕ) wher
 
     -- LAW: 13 is given where there is no slot for it
     pub no-slot-ack :
-        uid_free slots t socket (uid_in payload) ≡ true → place_for slots t socket ≡ Nowhere →
+        uid_free slots t socket (uid_in payload) ≡ true → place_for slots t socket ≡ None →
         assigned slots c t socket payload ≡ refusal t 13
     no-slot-ack f e =
         let n = (has-none own any).0 (has-place slots t socket ∙ ap is_slot e) in
@@ -274,6 +275,6 @@ module _ (slots : ℕ) (c t : List ℕ) (socket : ℕ) (payload : List ℕ) wher
 
     -- LAW: that is where the socket has no slot and all are taken
     pub full-ack :
-        uid_free slots t socket (uid_in payload) ≡ true → place_of slots t socket ≡ Nowhere →
+        uid_free slots t socket (uid_in payload) ≡ true → place_of slots t socket ≡ None →
         ((j : ℕ) → j < slots → (slot_at t j).taken ≡ true) → assigned slots c t socket payload ≡ refusal t 13
     full-ack f e all = no-slot-ack f (ap (or_free slots t) e ∙ none_free slots t all)

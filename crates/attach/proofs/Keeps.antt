@@ -8,14 +8,14 @@ use mathlib.Core.Option.{none}
 use native.Mathlib.Omega.{arith}
 use lib.Dec.{eqb}
 use borrow.Author.Tests.{eqb-true, eqb-false}
+use Rattle.std.specs.Prelude.{Option, Some, None}
+use Rattle.std.specs.Option.{is_some}
 use Rattle.wire.specs.Number.{Bytes}
 use Rattle.catalogue.specs.Lookup.{device_of}
 use Rattle.slot.specs.Slot.{empty_slot}
 use Rattle.slot.specs.Rows.{slot_at, with_slot}
 use Rattle.table.specs.Places.{holds, place_of, free_of, is_slot, row_of}
 use Rattle.table.specs.Change.{acceptance, becomes}
-use Rattle.table.specs.declared.Place.{Place}
-use Rattle.table.specs.declared.Place.TheVariants.{At, Nowhere}
 use Rattle.table.proofs.Tests.{never}
 use Rattle.table.proofs.Searches.{holds_parts, holds_not, place_found, place_none}
 use Rattle.lawful.specs.Lawful.{lawful}
@@ -54,16 +54,16 @@ module _ (slots sockets : ℕ) (c t : List ℕ) (socket : ℕ) where
   pub left-gone : lawful slots sockets c t ≡ true → row_of slots (left slots t socket).table socket ≡ none
   left-gone h = (no_row slots (left slots t socket).table socket).1 (λ j l. go (place_of slots t socket) refl j l)
     where
-      same : (i j : ℕ) (b : Bool) → eqb j i ≡ b → place_of slots t socket ≡ At i → j < slots → holds (slot_at (left slots t socket).table j) socket ≡ false
+      same : (i j : ℕ) (b : Bool) → eqb j i ≡ b → place_of slots t socket ≡ Some i → j < slots → holds (slot_at (left slots t socket).table j) socket ≡ false
       same i j true q e l = rw (eqb-true j i q, left-empties slots t socket i e) (empty_holds socket)
       same i j false q e l =
           let ne : j ≢ i = eqb-false j i q in
           let f = place_found slots t socket i e in
           rw (left-others slots t socket j (λ p. ne (let s : i ≡ j = cc in sym s))) (alone h i j f.1 l ne f.0)
 
-      go : (p : Place) → place_of slots t socket ≡ p → (j : ℕ) → j < slots → holds (slot_at (left slots t socket).table j) socket ≡ false
-      go (At i) e j l = same i j (eqb j i) refl e l
-      go Nowhere e j l =
+      go : (p : Option ℕ) → place_of slots t socket ≡ p → (j : ℕ) → j < slots → holds (slot_at (left slots t socket).table j) socket ≡ false
+      go (Some i) e j l = same i j (eqb j i) refl e l
+      go None e j l =
           rw (left-others slots t socket j (λ q. never (sym (ap is_slot (sym e ∙ q))))) (place_none slots t socket e j l)
 
   module _ (payload : List ℕ) where
@@ -76,13 +76,13 @@ module _ (slots sockets : ℕ) (c t : List ℕ) (socket : ℕ) where
         (λ e. ns (sym e), λ e. free-means slots t socket (uid_in payload) free j l v ns (sym e))
 
     apart :
-        lawful slots sockets c t ≡ true → (i : ℕ) (p : Place) → place_of slots t socket ≡ p → or_free slots t p ≡ At i →
+        lawful slots sockets c t ≡ true → (i : ℕ) (p : Option ℕ) → place_of slots t socket ≡ p → or_free slots t p ≡ Some i →
         uid_free slots t socket (uid_in payload) ≡ true → (j : ℕ) → j < slots → j ≢ i → Apart (ack_row socket payload) (slot_at t j)
-    apart h i (At k) e q free j m ne =
+    apart h i (Some k) e q free j m ne =
         let f = place_found slots t socket k e in
         let w : k ≡ i = cc in
         row_apart free j m (alone h k j f.1 m (λ y. ne (y ∙ w)) f.0)
-    apart h i Nowhere e q free j m ne = row_apart free j m (place_none slots t socket e j m)
+    apart h i None e q free j m ne = row_apart free j m (place_none slots t socket e j m)
 
     -- LAW: an ACK keeps a lawful table lawful
     pub ack-lawful :
@@ -103,7 +103,7 @@ module _ (slots sockets : ℕ) (c t : List ℕ) (socket : ℕ) where
 
     -- LAW: a second ACK with the device's own UID is accepted in its own slot; its old row is no reason for 14
     pub second-ack :
-        lawful slots sockets c t ≡ true → (device_of c (device_in payload)).known ≡ true → (i : ℕ) → place_of slots t socket ≡ At i →
+        lawful slots sockets c t ≡ true → is_some (device_of c (device_in payload)) ≡ true → (i : ℕ) → place_of slots t socket ≡ Some i →
         uid_in payload ≡ (slot_at t i).uid → assigned slots c t socket payload ≡ acceptance (with_slot t i (ack_row socket payload))
     second-ack h k i e own =
         let f = place_found slots t socket i e in

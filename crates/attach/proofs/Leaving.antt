@@ -5,9 +5,11 @@ use mathlib.Core.Bool.{true, false}
 use mathlib.Core.List.{List}
 use mathlib.Core.Logic.Iff
 use mathlib.Core.Logic.{◌≢◌, ◌↔◌, ⊎_elim}
-use mathlib.Core.Option.{Option, none, some}
+use mathlib.Core.Option as option
+use mathlib.Core.Option.{none, some}
 use native.Mathlib.Nat.{eq-or-lt_of_le}
 use native.Mathlib.Omega.{arith}
+use Rattle.std.specs.Prelude.{Option, Some, None}
 use Rattle.wire.specs.Number.{Bytes}
 use Rattle.slot.specs.Slot.{empty_slot, Fits}
 use Rattle.slot.specs.Rows.{slot_at, with_slot}
@@ -15,30 +17,28 @@ use Rattle.slot.specs.declared.Slot.{Slot}
 use Rattle.slot.proofs.Rows.{fresh-fits, same-slot}
 use Rattle.table.specs.Places.{holds, place_of, free_of, row_of}
 use Rattle.table.specs.Change.{accepted, refused, Effect, refusal, acceptance, becomes, denied}
-use Rattle.table.specs.declared.Place.{Place}
-use Rattle.table.specs.declared.Place.TheVariants.{At, Nowhere}
 use Rattle.table.proofs.Tests.{never}
 use Rattle.table.proofs.Searches.{holds_parts, place_found, free-found, taken-within}
 use Rattle.table.proofs.Changes.{is_accepted, row_left, FitsChange, changed-others, changed-denied, changed-bytes, denied-exactly}
 use Rattle.attach.specs.Attach.{leaving, left}
-use Rattle.attach.proofs.Facts.{is_some, no_row, free-below}
+use Rattle.attach.proofs.Facts.{has_row, no_row, free-below}
 use Rattle.attach.proofs.Acks.{denied_number}
 
 empty-fits : Fits empty_slot
 empty-fits = fresh-fits false 0 0 0 0 (omega arith) (omega arith) (omega arith) (omega arith)
 
 -- LAW: the row that leaving leaves is what its type says
-pub leave_fits : (own : Option Slot) → FitsChange (leaving own)
+pub leave_fits : (own : option.Option Slot) → FitsChange (leaving own)
 leave_fits (some own) = empty-fits
 leave_fits none = tt
 
 -- LAW: 15 is given exactly where the socket has no row
-pub leave-15 : (own : Option Slot) → (leaving own ≡ denied 15) ↔ (own ≡ none)
-leave-15 (some own) = (λ e. let z : ◌≡◌ {A = ℕ} 0 15 = ap denied_number e in absurd (omega arith), λ e. never (ap is_some e))
+pub leave-15 : (own : option.Option Slot) → (leaving own ≡ denied 15) ↔ (own ≡ none)
+leave-15 (some own) = (λ e. let z : ◌≡◌ {A = ℕ} 0 15 = ap denied_number e in absurd (omega arith), λ e. never (ap has_row e))
 leave-15 none = (λ e. refl, λ e. refl)
 
 -- LAW: the row that is left is an empty one
-pub leave-row : (own : Option Slot) (row : Slot) → leaving own ≡ becomes row → row ≡ empty_slot
+pub leave-row : (own : option.Option Slot) (row : Slot) → leaving own ≡ becomes row → row ≡ empty_slot
 leave-row (some own) row e = sym (ap (row_left empty_slot) e)
 leave-row none row e = ap (row_left empty_slot) (sym e)
 
@@ -55,29 +55,29 @@ module _ (slots : ℕ) (t : List ℕ) (socket : ℕ) where
   left-refused = changed-denied t (place_of slots t socket) (leaving (row_of slots t socket))
 
   -- LAW: the leave of a socket without a slot is 15
-  pub left-nowhere : place_of slots t socket ≡ Nowhere → left slots t socket ≡ refusal t 15
+  pub left-nowhere : place_of slots t socket ≡ None → left slots t socket ≡ refusal t 15
   left-nowhere e = rw e
 
   -- LAW: the leave of a seated socket is accepted
-  pub left-accepted : (i : ℕ) → place_of slots t socket ≡ At i → left slots t socket ≡ acceptance (with_slot t i empty_slot)
+  pub left-accepted : (i : ℕ) → place_of slots t socket ≡ Some i → left slots t socket ≡ acceptance (with_slot t i empty_slot)
   left-accepted i e = rw e
 
   -- LAW: leaving is accepted exactly where the socket has a slot
-  pub left-exactly : ((left slots t socket).verdict ≡ accepted) ↔ ((i : ℕ) × (place_of slots t socket ≡ At i))
+  pub left-exactly : ((left slots t socket).verdict ≡ accepted) ↔ ((i : ℕ) × (place_of slots t socket ≡ Some i))
   left-exactly = (to (place_of slots t socket) refl, λ h. rw h.1)
     where
-      to : (p : Place) → place_of slots t socket ≡ p → (left slots t socket).verdict ≡ accepted → (i : ℕ) × (p ≡ At i)
-      to (At i) e h = (i, refl)
-      to Nowhere e h = never (sym (ap is_accepted (sym (ap (λ (x : Effect). x.verdict) (left-nowhere e)) ∙ h)))
+      to : (p : Option ℕ) → place_of slots t socket ≡ p → (left slots t socket).verdict ≡ accepted → (i : ℕ) × (p ≡ Some i)
+      to (Some i) e h = (i, refl)
+      to None e h = never (sym (ap is_accepted (sym (ap (λ (x : Effect). x.verdict) (left-nowhere e)) ∙ h)))
 
   -- LAW: its slot is empty afterwards
-  pub left-empties : (i : ℕ) → place_of slots t socket ≡ At i → slot_at (left slots t socket).table i ≡ empty_slot
+  pub left-empties : (i : ℕ) → place_of slots t socket ≡ Some i → slot_at (left slots t socket).table i ≡ empty_slot
   left-empties i e =
       let h = holds_parts (slot_at t i) socket (place_found slots t socket i e).0 in
       rw e (same-slot t i empty_slot empty-fits (taken-within t i h.0))
 
   -- LAW: every slot but the socket's is exactly as it was
-  pub left-others : (j : ℕ) → place_of slots t socket ≢ At j → slot_at (left slots t socket).table j ≡ slot_at t j
+  pub left-others : (j : ℕ) → place_of slots t socket ≢ Some j → slot_at (left slots t socket).table j ≡ slot_at t j
   left-others = changed-others t (place_of slots t socket) (leaving (row_of slots t socket))
 
   -- LAW: the row of a device on another socket is exactly as it was
@@ -90,21 +90,21 @@ module _ (slots : ℕ) (t : List ℕ) (socket : ℕ) where
 
   -- LAW: the slot is free again, so that the next free one is not above it
   pub slot-free-again :
-      (i : ℕ) → place_of slots t socket ≡ At i → (k : ℕ) × (free_of slots (left slots t socket).table ≡ At k) × (k ≤ i)
+      (i : ℕ) → place_of slots t socket ≡ Some i → (k : ℕ) × (free_of slots (left slots t socket).table ≡ Some k) × (k ≤ i)
   slot-free-again i e =
       free-below slots (left slots t socket).table i (place_found slots t socket i e).1
       (ap (λ (s : Slot). s.taken) (left-empties i e))
 
   -- LAW: and is that one where the table was full
   pub slot-used-again :
-      (i : ℕ) → place_of slots t socket ≡ At i → ((j : ℕ) → j < slots → (slot_at t j).taken ≡ true) →
-      free_of slots (left slots t socket).table ≡ At i
+      (i : ℕ) → place_of slots t socket ≡ Some i → ((j : ℕ) → j < slots → (slot_at t j).taken ≡ true) →
+      free_of slots (left slots t socket).table ≡ Some i
   slot-used-again i e all = let f = slot-free-again i e in go f.0 f.1 f.2
     where
-      go : (k : ℕ) → free_of slots (left slots t socket).table ≡ At k → k ≤ i → free_of slots (left slots t socket).table ≡ At i
+      go : (k : ℕ) → free_of slots (left slots t socket).table ≡ Some k → k ≤ i → free_of slots (left slots t socket).table ≡ Some i
       go k q le =
           ⊎_elim
-          (λ (s : k ≡ i). q ∙ ap At s)
+          (λ (s : k ≡ i). q ∙ ap Some s)
           (λ (l : k < i).
           let f = free-found slots (left slots t socket).table k q in
           let o = left-others k (λ p. let s : i ≡ k = cc in absurd (omega arith)) in

@@ -5,12 +5,14 @@ use mathlib.Core.Path.{◌≡◌, refl, ap}
 use mathlib.Core.Bool.{true, false}
 use mathlib.Core.List.{List, [], ◌∷◌, ◌++◌, map}
 use lib.ListN.{get_or, set, take}
+use Rattle.std.specs.Prelude.{Some}
 use Rattle.packet.specs.TypeTable.{PING, ACK, DEVICE_DATA}
 use Rattle.packet.specs.Message.{xor_from, message_of}
 use Rattle.packet.specs.Packet.{Reading, accepted, refused, copy_of, decoded}
 use Rattle.packet.proofs.Cases as packets
 use Rattle.packet.proofs.Cases.{Case, table}
-use Rattle.catalogue.specs.Format.{legal, kind_int, kind_float, kind_bool}
+use Rattle.catalogue.specs.declared.Kind.TheVariants as kind
+use Rattle.catalogue.specs.Format.{legal}
 use Rattle.catalogue.specs.Lookup.{device_of, parameter_of}
 use Rattle.catalogue.proofs.Bench.{catalogue_c, bench-C}
 use Rattle.list.specs.Limits.{list_limit}
@@ -45,10 +47,10 @@ pub record Starred : Type 0 where
   -- "Catalogue C: 01 07 03 03 00 04 09 06 (type 7; INT readable, FLOAT writable, BOOL readable)."
   pub c-bytes : catalogue_c ≡ 0x01 ∷ 0x07 ∷ 0x03 ∷ 0x03 ∷ 0x00 ∷ 0x04 ∷ 0x09 ∷ 0x06 ∷ []
   pub c-legal : legal catalogue_c ≡ true
-  pub c-type : device_of catalogue_c 7 ≡ record { known = true; first = 0; parameters = 3 }
-  pub c-int : parameter_of catalogue_c 7 0 ≡ record { known = true; kind = kind_int; readable = true; writable = false }
-  pub c-float : parameter_of catalogue_c 7 1 ≡ record { known = true; kind = kind_float; readable = false; writable = true }
-  pub c-bool : parameter_of catalogue_c 7 2 ≡ record { known = true; kind = kind_bool; readable = true; writable = false }
+  pub c-type : device_of catalogue_c 7 ≡ Some (record { first = 0; parameters = 3 })
+  pub c-int : parameter_of catalogue_c 7 0 ≡ Some (record { kind = kind.Int; readable = true; writable = false })
+  pub c-float : parameter_of catalogue_c 7 1 ≡ Some (record { kind = kind.Float; readable = false; writable = true })
+  pub c-bool : parameter_of catalogue_c 7 2 ≡ Some (record { kind = kind.Bool; readable = true; writable = false })
   -- "ACK, type 7, year 6, UID 01 to 08", 16 bytes
   pub ack : decoded ack_c ≡ packet_of ACK 10 (7 ∷ 6 ∷ 1 ∷ 2 ∷ 3 ∷ 4 ∷ 5 ∷ 6 ∷ 7 ∷ 8 ∷ []) 16
   -- "DEVICE_DATA, map 5, 7 and true", 15 bytes

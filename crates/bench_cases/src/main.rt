@@ -6,8 +6,14 @@ mod lists;
 mod packets;
 mod show;
 
+use output::{LIST_LINE_ROOM, Output};
+
+// A line of output, collected before it is written.
+type Line = Output<LIST_LINE_ROOM>;
+
 fn main() {
-    packets::run();
-    device::run();
-    lists::run();
+    let mut out = Line::new();
+    packets::run(&mut out);
+    device::run(&mut out);
+    lists::run(&mut out);
 }

@@ -3,21 +3,23 @@ use Prim.Native.Nat.{ℕ}
 use mathlib.Core.Path.{◌≡◌, refl}
 use mathlib.Core.Bool.{true, false}
 use mathlib.Core.List.{List, [], ◌∷◌, ◌++◌}
+use Rattle.std.specs.Prelude.{Some, None}
 use Rattle.wire.specs.Every.{every}
-use Rattle.catalogue.specs.Format.{type_legal, parameters_before, kind_int, kind_float, kind_bool, parameter_legal, legal}
-use Rattle.catalogue.specs.Lookup.{no_device, device_from, device_of, no_parameter, parameter_in, parameter_of}
+use Rattle.catalogue.specs.Format.{type_legal, parameters_before, parameter_legal, legal}
+use Rattle.catalogue.specs.Lookup.{device_from, device_of, parameter_in, parameter_of}
+use Rattle.catalogue.specs.declared.Kind.TheVariants as kind
 
 abbrev pub catalogue_c : List ℕ
 catalogue_c = 0x01 ∷ 0x07 ∷ 0x03 ∷ 0x03 ∷ 0x00 ∷ 0x04 ∷ 0x09 ∷ 0x06 ∷ []
 
 pub record BenchC : Type 0 where
   pub is-legal : legal catalogue_c ≡ true
-  pub type-7 : device_of catalogue_c 7 ≡ record { known = true; first = 0; parameters = 3 }
-  pub type-8 : device_of catalogue_c 8 ≡ no_device
-  pub int-readable : parameter_of catalogue_c 7 0 ≡ record { known = true; kind = kind_int; readable = true; writable = false }
-  pub float-writable : parameter_of catalogue_c 7 1 ≡ record { known = true; kind = kind_float; readable = false; writable = true }
-  pub bool-readable : parameter_of catalogue_c 7 2 ≡ record { known = true; kind = kind_bool; readable = true; writable = false }
-  pub no-fourth : parameter_of catalogue_c 7 3 ≡ no_parameter
+  pub type-7 : device_of catalogue_c 7 ≡ Some (record { first = 0; parameters = 3 })
+  pub type-8 : device_of catalogue_c 8 ≡ None
+  pub int-readable : parameter_of catalogue_c 7 0 ≡ Some (record { kind = kind.Int; readable = true; writable = false })
+  pub float-writable : parameter_of catalogue_c 7 1 ≡ Some (record { kind = kind.Float; readable = false; writable = true })
+  pub bool-readable : parameter_of catalogue_c 7 2 ≡ Some (record { kind = kind.Bool; readable = true; writable = false })
+  pub no-fourth : parameter_of catalogue_c 7 3 ≡ None
   pub empty-is-legal : legal (0 ∷ 0 ∷ 0 ∷ []) ≡ true
   pub no_bytes : legal [] ≡ false
   pub byte-behind : legal (catalogue_c ++ (0 ∷ [])) ≡ false

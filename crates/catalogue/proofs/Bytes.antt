@@ -1,119 +1,80 @@
--- The bytes of a device type's parameters: how they are found and filled in, and what they say of each parameter.
-use Prim.Native.Nat.{ℕ, zero, suc, ◌+◌, ◌*◌, ◌-◌, ◌≤◌, ◌<◌}
+-- The bytes of a device type's parameters: how they are filled in, and what they say of each parameter.
+use Prim.Native.Nat.{ℕ, zero, suc, ◌+◌, ◌≤◌, ◌<◌, min}
 use mathlib.Core.Path.{◌≡◌, refl, sym, ap, ◌∙◌}
 use mathlib.Core.Bool.{Bool, true, false, cond}
 use mathlib.Core.List.{List}
+use Rattle.std.specs.Prelude.{Option, Some, None}
 use native.Mathlib.Omega.{arith}
-use native.Mathlib.Nat.{add_assoc}
-use lib.Dec.{ltb, eqb}
-use lib.ListN.{length, get_or, set, replicate, get_or-eq_default}
-use lib.Seq.{get_or-set_same, get_or-set_other}
-use borrow.Author.Tests.{ltb-true, ltb-false, lt-ltb, le-ltb, eqb-true, eqb-false}
-use Rattle.catalogue.specs.Format.{max_parameters, type_count, parameter_byte, described}
-use Rattle.catalogue.specs.Lookup.{no_parameter, parameter_in, byte_in, BytesIn}
+use lib.Dec.{ltb}
+use lib.ListN.{length, get_or, replicate, get_or-eq_default}
+use borrow.Author.Tests.{ltb-true, ltb-false, le-ltb}
+use Rattle.catalogue.specs.Format.{max_parameters, parameter_byte, kind_number, described}
+use Rattle.catalogue.specs.Lookup.{parameter_in, is_readable, kind_in, byte_in, BytesIn}
 use Rattle.catalogue.specs.declared.Device.{Device}
 
--- the offset of a device type's first parameter
-abbrev pub first_offset : List ℕ → Device → ℕ
-first_offset s d = 3 + 2 * type_count s + d.first
-
-cond_same : (b : Bool) (n : ℕ) → cond b n n ≡ n
-cond_same true n = refl
-cond_same false n = refl
-
-byte_past : (s : List ℕ) (d : Device) (p : ℕ) → length s ≤ first_offset s d + p → 0 ≡ byte_in s d p
-unfolding byte_in
-byte_past s d p h =
-    let e : parameter_byte s (d.first + p) ≡ 0 = get_or-eq_default s 0 {n = 3 + 2 * type_count s + (d.first + p)} (omega arith) in
-    rw (e, cond_same)
-
-byte-none : (s : List ℕ) (d : Device) (p : ℕ) → d.parameters ≤ p → 0 ≡ byte_in s d p
-unfolding byte_in
-byte-none s d p h = rw (le-ltb p d.parameters h)
-
-byte-there : (s : List ℕ) (d : Device) (p : ℕ) → p < d.parameters → get_or s (first_offset s d + p) 0 ≡ byte_in s d p
-unfolding byte_in
-byte-there s d p h = rw (lt-ltb p d.parameters h) (ap (λ (k : ℕ). get_or s k 0) (add_assoc (3 + 2 * type_count s) d.first p))
-
--- where the catalogue ends before the parameters, all bytes are 0
-pub span_none :
-    (s : List ℕ) (d : Device) (from : ℕ) → length s ≤ first_offset s d →
-    (p : ℕ) → p < max_parameters → cond (ltb p 0) (get_or s (from + p) 0) 0 ≡ byte_in s d p
-span_none s d from h p l = let e : ltb p 0 ≡ false = le-ltb p 0 (omega arith) in rw e (byte_past s d p (omega arith))
-
--- else those of as many as the type and the catalogue have, at most 32
-pub span-some :
-    (s : List ℕ) (d : Device) (most count : ℕ) →
-    most ≤ d.parameters → (most < d.parameters → max_parameters ≤ most) →
-    count ≤ most → (count < most → length s - first_offset s d ≤ count) →
-    (p : ℕ) → p < max_parameters → cond (ltb p count) (get_or s (first_offset s d + p) 0) 0 ≡ byte_in s d p
-span-some s d most count a b e f p l = go (ltb p count) refl
-  where
-    beyond : (t : Bool) → ltb count most ≡ t → count ≤ p → 0 ≡ byte_in s d p
-    beyond true q k = let r = f (ltb-true count most q) in byte_past s d p (omega arith)
-    beyond false q k = let m = ltb-false count most q in full (ltb most d.parameters) refl (omega arith)
-      where
-        full : (t : Bool) → ltb most d.parameters ≡ t → most ≤ p → 0 ≡ byte_in s d p
-        full true q k = let r = b (ltb-true most d.parameters q) in absurd (omega arith)
-        full false q k = let m = ltb-false most d.parameters q in byte-none s d p (omega arith)
-
-    go : (t : Bool) → ltb p count ≡ t → cond t (get_or s (first_offset s d + p) 0) 0 ≡ byte_in s d p
-    go true q = let m = ltb-true p count q in byte-there s d p (omega arith)
-    go false q = beyond (ltb count most) refl (ltb-false p count q)
-
 -- zeros read as 0, and so does what is past them
-pub zeros : (n p : ℕ) → get_or {A = ℕ} (replicate n 0) p 0 ≡ 0
+zeros : (n p : ℕ) → get_or {A = ℕ} (replicate n 0) p 0 ≡ 0
 zeros zero p = refl
 zeros (suc n) zero = refl
 zeros (suc n) (suc p) = zeros n p
 
--- nothing filled in yet
-pub fill_none : (s : List ℕ) (from p : ℕ) → get_or (replicate max_parameters 0) p 0 ≡ cond (ltb p 0) (get_or s (from + p) 0) 0
-fill_none s from p = let e : ltb p 0 ≡ false = le-ltb p 0 (omega arith) in rw e (zeros max_parameters p)
+-- no device type's are all 0
+pub no-bytes : (s : List ℕ) → BytesIn s None (replicate max_parameters 0)
+unfolding byte_in
+no-bytes s = record { all = refl; each = λ p l. zeros max_parameters p }
 
--- one byte more filled in
-pub fill-next :
-    (bytes s : List ℕ) (from i : ℕ) → i < length bytes → ((p : ℕ) → get_or bytes p 0 ≡ cond (ltb p i) (get_or s (from + p) 0) 0) →
-    (p : ℕ) → get_or (set bytes i (get_or s (from + i) 0)) p 0 ≡ cond (ltb p (i + 1)) (get_or s (from + p) 0) 0
-fill-next bytes s from i h filled p = go (eqb p i) refl
+-- before the first byte, all are 0
+pub fill_none : (rest : List ℕ) (p : ℕ) → get_or (replicate max_parameters 0) p 0 ≡ cond (ltb p 0) (get_or rest p 0) 0
+fill_none rest p = let e : ltb p 0 ≡ false = le-ltb p 0 (omega arith) in rw e (zeros max_parameters p)
+
+-- a device type's: as many as type and catalogue have, then zeros
+module _ (s : List ℕ) (d : Device) (rest : List ℕ) (count : ℕ) (behind : (p : ℕ) → get_or rest p 0 ≡ parameter_byte s (d.first + p))
+    (few : count ≡ min (min d.parameters max_parameters) (length rest))
   where
-    other : (p ≡ i → ⊥) → (t : Bool) → ltb p i ≡ t → cond t (get_or s (from + p) 0) 0 ≡ cond (ltb p (i + 1)) (get_or s (from + p) 0) 0
-    other n true q = let m = ltb-true p i q in rw (lt-ltb p (i + 1) (omega arith))
-    other n false q = let m = ltb-false p i q in rw (le-ltb p (i + 1) (omega (arith, n)))
+    past : (p : ℕ) → length rest ≤ p → parameter_byte s (d.first + p) ≡ 0
+    past p l = sym (behind p) ∙ get_or-eq_default rest 0 l
 
-    go : (t : Bool) → eqb p i ≡ t → get_or (set bytes i (get_or s (from + i) 0)) p 0 ≡ cond (ltb p (i + 1)) (get_or s (from + p) 0) 0
-    go true q =
-        let e = eqb-true p i q in
-        rw (e, get_or-set_same bytes i (get_or s (from + i) 0) 0 h, lt-ltb i (i + 1) (omega arith))
-    go false q =
-        get_or-set_other bytes i p (get_or s (from + i) 0) 0 (eqb-false p i q) ∙ filled p ∙ other (eqb-false p i q) (ltb p i) refl
+    pub filled : (p : ℕ) → p < max_parameters → cond (ltb p count) (get_or rest p 0) 0 ≡ byte_in s (Some d) p
+    unfolding byte_in
+    filled p l = go (ltb p count) (ltb p d.parameters) refl refl
+      where
+        go :
+            (a b : Bool) → ltb p count ≡ a → ltb p d.parameters ≡ b →
+            cond a (get_or rest p 0) 0 ≡ cond b (parameter_byte s (d.first + p)) 0
+        go true true e f = behind p
+        go true false e f = absurd (omega (arith, ltb-true p count e, ltb-false p d.parameters f))
+        go false true e f = sym (past p (omega (arith, ltb-false p count e, ltb-true p d.parameters f)))
+        go false false e f = refl
 
 -- LAW: kind and direction of a parameter are those that its byte describes
-pub kind-of-byte : (s : List ℕ) (d : Device) (p : ℕ) → (parameter_in s d p).kind ≡ (described (byte_in s d p)).kind
+pub kind-of-byte : (s : List ℕ) (d : Option Device) (p : ℕ) → kind_in (parameter_in s d p) ≡ kind_number (described (byte_in s d p)).kind
 unfolding parameter_in byte_in
-kind-of-byte s d p = go (ltb p d.parameters)
+kind-of-byte s None p = refl
+kind-of-byte s (Some d) p = go (ltb p d.parameters)
   where
     go :
         (t : Bool) →
-        (cond t (described (parameter_byte s (d.first + p))) no_parameter).kind ≡ (described (cond t (parameter_byte s (d.first + p)) 0)).kind
+        kind_in (cond t (Some (described (parameter_byte s (d.first + p)))) None) ≡
+        kind_number (described (cond t (parameter_byte s (d.first + p)) 0)).kind
     go true = refl
     go false = refl
 
-pub readable-of-byte : (s : List ℕ) (d : Device) (p : ℕ) → (parameter_in s d p).readable ≡ (described (byte_in s d p)).readable
+pub readable-of-byte : (s : List ℕ) (d : Option Device) (p : ℕ) → is_readable (parameter_in s d p) ≡ (described (byte_in s d p)).readable
 unfolding parameter_in byte_in
-readable-of-byte s d p = go (ltb p d.parameters)
+readable-of-byte s None p = refl
+readable-of-byte s (Some d) p = go (ltb p d.parameters)
   where
     go :
         (t : Bool) →
-        (cond t (described (parameter_byte s (d.first + p))) no_parameter).readable ≡
+        is_readable (cond t (Some (described (parameter_byte s (d.first + p)))) None) ≡
         (described (cond t (parameter_byte s (d.first + p)) 0)).readable
     go true = refl
     go false = refl
 
 -- the same by the bytes of all parameters
-module _ {s : List ℕ} {d : Device} {bytes : List ℕ} (h : BytesIn s d bytes) (p : ℕ) (l : p < max_parameters) where
-  pub kind-is : (parameter_in s d p).kind ≡ (described (get_or bytes p 0)).kind
-  kind-is = kind-of-byte s d p ∙ ap (λ (b : ℕ). (described b).kind) (sym (h.each p l))
+module _ {s : List ℕ} {d : Option Device} {bytes : List ℕ} (h : BytesIn s d bytes) (p : ℕ) (l : p < max_parameters) where
+  pub kind-is : kind_in (parameter_in s d p) ≡ kind_number (described (get_or bytes p 0)).kind
+  kind-is = kind-of-byte s d p ∙ ap (λ (b : ℕ). kind_number (described b).kind) (sym (h.each p l))
 
-  pub readable-is : (parameter_in s d p).readable ≡ (described (get_or bytes p 0)).readable
+  pub readable-is : is_readable (parameter_in s d p) ≡ (described (get_or bytes p 0)).readable
   readable-is = readable-of-byte s d p ∙ ap (λ (b : ℕ). (described b).readable) (sym (h.each p l))

@@ -3,6 +3,7 @@ use Prim.Native.Nat.{ℕ, zero, suc, ◌+◌, ◌-◌, ◌<◌}
 use mathlib.Core.Path.{◌≡◌, ap, ◌∙◌}
 use mathlib.Core.Bool.{Bool, cond}
 use mathlib.Core.List.{List}
+use Rattle.std.specs.Prelude.{Some}
 use native.Mathlib.Omega.{arith}
 use native.Mathlib.Numerals.{add-one}
 use native.Mathlib.Nat.{le_of_eq}
@@ -20,7 +21,7 @@ parameters-more s i = rw (add-one i)
 
 pub device-step :
     (n : ℕ) (s : List ℕ) (number i : ℕ) → 0 < n →
-    device_from n s number i ≡ cond (eqb (type_number s i) number) (device_at s i) (device_from (n - 1) s number (i + 1))
+    device_from n s number i ≡ cond (eqb (type_number s i) number) (Some (device_at s i)) (device_from (n - 1) s number (i + 1))
 unfolding device_from
 device-step zero s number i h = absurd (omega arith)
 device-step (suc n) s number i h = let e : suc n - 1 ≡ n = omega arith in rw e

@@ -1,7 +1,9 @@
 -- The bytes of a catalogue, in the order of 01's "The catalogue".
-use Rattle.std.specs.Prelude.{ℕ, zero, suc, ◌+◌, ◌*◌, ◌-◌, ◌/◌, ◌%◌, Bool, true, ◌&&◌, ◌||◌, List, ltb, leb, eqb, length, get_or}
+use Rattle.std.specs.Prelude.{ℕ, zero, suc, ◌+◌, ◌*◌, ◌-◌, ◌/◌, ◌%◌, Bool, ◌&&◌, ◌||◌, cond, List, ltb, leb, eqb, length, get_or}
 use Rattle.wire.specs.Every.{every}
 use Rattle.wire.specs.Number.{number_at}
+use Rattle.catalogue.specs.declared.Kind.{Kind}
+use Rattle.catalogue.specs.declared.Kind.TheVariants as kind
 use Rattle.catalogue.specs.declared.Parameter.{Parameter}
 
 -- "(0 to 32) of device types"
@@ -53,13 +55,24 @@ kind_float = 1
 abbrev pub kind_bool : ℕ
 kind_bool = 2
 
+-- the kind that two bits say; 3 is none of the three
+abbrev pub kind_of : ℕ → Kind
+kind_of bits = cond (eqb bits kind_int) kind.Int (cond (eqb bits kind_float) kind.Float (cond (eqb bits kind_bool) kind.Bool kind.Unknown))
+
+-- the number of a kind, two bits
+abbrev pub kind_number : Kind → ℕ
+kind_number kind.Int = kind_int
+kind_number kind.Float = kind_float
+kind_number kind.Bool = kind_bool
+kind_number kind.Unknown = 3
+
 -- "kind in the low two bits .., 4 added if readable, 8 if writable, nothing else"
 unfoldable pub parameter_legal : ℕ → Bool
 parameter_legal b = ltb b 16 && leb (b % 4) kind_bool
 
 -- the same byte taken apart
 abbrev pub described : ℕ → Parameter
-described b = record { known = true; kind = b % 4; readable = eqb (b / 4 % 2) 1; writable = eqb (b / 8 % 2) 1 }
+described b = record { kind = kind_of (b % 4); readable = eqb (b / 4 % 2) 1; writable = eqb (b / 8 % 2) 1 }
 
 -- a legal catalogue, sentence by sentence; the length says "Nothing follows"
 unfoldable pub legal : List ℕ → Bool

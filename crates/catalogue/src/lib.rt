@@ -1,36 +1,36 @@
 // The catalogue: which device types there are, and the kind and direction of each of their parameters.
 #![tactic(auto)]
 
-ghost use Rattle.std.specs.Prelude.{ℕ, ◌+◌, ◌*◌, ◌≤◌, ◌<◌, ◌≡◌, cond, ltb, length, get_or};
+ghost use Rattle.std.specs.Prelude.{ℕ, ◌+◌, ◌*◌, ◌≤◌, ◌≡◌, length, get_or, drop, Some};
 ghost use Rattle.wire.specs.Every.{every};
-ghost use Rattle.catalogue.specs.Format.{max_types, max_parameters, type_legal, parameters_before, parameter_byte, parameter_legal, described, legal};
-ghost use Rattle.catalogue.specs.Lookup.{device_of, parameter_in, parameter_of, byte_in, BytesIn};
+ghost use Rattle.catalogue.specs.Format.{max_types, type_legal, parameters_before, parameter_byte, kind_of, parameter_legal, described, legal};
+ghost use Rattle.catalogue.specs.Lookup.{device_of, parameter_in, parameter_of, BytesIn};
 
 // The most device types, and the most parameters of one type.
 const MAX_TYPES: usize = 32;
 
 pub const MAX_PARAMETERS: usize = 32;
 
-// The kinds of a parameter.
-pub const INT: u8 = 0;
-
-pub const FLOAT: u8 = 1;
-
-pub const BOOL: u8 = 2;
+// The kind of a parameter. No legal catalogue has one of unknown kind.
+#[derive(Clone, Copy, Debug, PartialEq, Eq)]
+pub enum Kind {
+    Int,
+    Float,
+    Bool,
+    Unknown,
+}
 
 // A device type of the catalogue: how many parameters stand before its own, and how many it has.
-#[derive(Drop)]
+#[derive(Clone, Copy)]
 pub struct Device {
-    pub known: bool,
     pub first: usize,
     pub parameters: usize,
 }
 
-// A parameter of a device type.
-#[derive(Drop)]
+// A parameter of a device type. It may be readable, writable, both or neither, so the two flags are no plainer as an enum.
+#[derive(Clone, Copy)]
 pub struct Parameter {
-    pub known: bool,
-    pub kind: u8,
+    pub kind: Kind,
     pub readable: bool,
     pub writable: bool,
 }
@@ -62,11 +62,8 @@ fn are_legal_types(s: &[u8], n: usize) -> bool
     requires { n ≤ max_types }
     ensures { result ≡ every n (type_legal s.now) }
 {
-    let mut i = 0;
-    while i < n {
-        if is_legal_type(s, i) {
-            i += 1;
-        } else {
+    for i in 0..n {
+        if !is_legal_type(s, i) {
             return false;
         }
     }
@@ -78,19 +75,29 @@ fn parameters_before(s: &[u8], n: usize) -> usize
     requires { n ≤ max_types }
     ensures { (result ≡ parameters_before s.now n) × (result ≤ 255 * n) }
 {
-    let mut i = 0;
     let mut sum = 0;
-    while i < n {
+    for i in 0..n {
         sum += number_at(s, 2 + 2 * i);
-        i += 1;
     }
     sum
+}
+
+// The kind that the low two bits of a parameter's byte say. No TryFrom: two bits always say one, so it cannot fail.
+fn kind_of(bits: u8) -> Kind
+    ensures { result ≡ kind_of bits }
+{
+    match bits {
+        0 => Kind::Int,
+        1 => Kind::Float,
+        2 => Kind::Bool,
+        _ => Kind::Unknown,
+    }
 }
 
 fn is_legal_parameter(b: u8) -> bool
     ensures { result ≡ parameter_legal b }
 {
-    (b < 16) & (b % 4 <= BOOL)
+    (b < 16) & (kind_of(b % 4) != Kind::Unknown)
 }
 
 // Whether each of the bytes describes a parameter. Every byte is looked at, so that the loop has one exit and can run on
@@ -99,10 +106,8 @@ fn are_legal_parameters(bytes: &[u8]) -> bool
     ensures { result ≡ every (length bytes.now) (λ k. parameter_legal (get_or bytes.now k 0)) }
 {
     let mut legal = true;
-    let mut i = 0;
-    while i < bytes.len() {
-        legal = legal & is_legal_parameter(bytes[i]);
-        i += 1;
+    for b in bytes {
+        legal = legal & is_legal_parameter(*b);
     }
     legal
 }
@@ -131,31 +136,22 @@ pub fn is_legal(s: &[u8]) -> bool
 }
 
 // The device type of this number.
-pub fn find_device(s: &[u8], number: u8) -> Device
+pub fn find_device(s: &[u8], number: u8) -> Option<Device>
     ensures { result ≡ device_of s.now number }
 {
     let n = number_at(s, 0);
-    let mut left = n;
-    let mut i = 0;
     let mut first = 0;
-    while 0 < left {
+    for i in 0..n {
         let count = number_at(s, 2 + 2 * i);
         if wire::byte_at(s, 1 + 2 * i) == number {
-            return Device {
-                known: true,
+            return Some(Device {
                 first,
                 parameters: count,
-            };
+            });
         }
         first += count;
-        i += 1;
-        left -= 1;
     }
-    Device {
-        known: false,
-        first: 0,
-        parameters: 0,
-    }
+    None
 }
 
 // The parameter that a byte describes.
@@ -163,57 +159,42 @@ pub fn describe(b: u8) -> Parameter
     ensures { result ≡ described b }
 {
     Parameter {
-        known: true,
-        kind: b % 4,
+        kind: kind_of(b % 4),
         readable: b / 4 % 2 == 1,
         writable: b / 8 % 2 == 1,
     }
 }
 
-// Where the bytes of a device type's parameters stand, as far as the catalogue has them.
-#[derive(Drop)]
-struct Span {
-    from: usize,
-    count: usize,
+// The bytes from an offset on, none past the end.
+fn behind(s: &[u8], at: usize) -> &[u8]
+    ensures { result.now ≡ drop at s.now }
+{
+    s.get(at..).unwrap_or(&[])
 }
 
-fn least(a: usize, b: usize) -> usize
-    ensures { (result ≤ a) × (result ≤ b) × (result < a → b ≤ result) }
+// The bytes of the parameters behind the first `first` of all types, none past the end.
+fn bytes_behind(s: &[u8], first: usize) -> &[u8]
+    ensures { (p : ℕ) → get_or result.now p 0 ≡ parameter_byte s.now (first + p) }
 {
-    if a < b {
-        return a;
+    if s.len() <= first {
+        return &[];
     }
-    b
-}
-
-// The span of at most 32 parameters. The byte of a parameter behind it is 0.
-fn span_of(s: &[u8], d: Device) -> Span
-    ensures { (result.from + result.count ≤ length s.now) × (result.count ≤ max_parameters)
-        × ((p : ℕ) → p < max_parameters → cond (ltb p result.count) (get_or s.now (result.from + p) 0) 0 ≡ byte_in s.now d p) }
-{
-    if s.len() <= d.first {
-        return Span { from: 0, count: 0 };
-    }
-    let from = 3 + 2 * number_at(s, 0) + d.first;
-    if s.len() <= from {
-        return Span { from: 0, count: 0 };
-    }
-    let most = least(d.parameters, MAX_PARAMETERS);
-    let count = least(most, s.len() - from);
-    Span { from, count }
+    behind(s, 3 + 2 * number_at(s, 0) + first)
 }
 
 // The bytes of a device type's parameters, 0 where it has none, for a caller that asks for several of them.
-pub fn parameter_bytes(s: &[u8], d: Device) -> [u8; MAX_PARAMETERS]
+pub fn parameter_bytes(s: &[u8], d: Option<Device>) -> [u8; MAX_PARAMETERS]
     ensures { BytesIn s.now d result }
 {
     let mut bytes = [0u8; MAX_PARAMETERS];
-    let span = span_of(s, d);
-    let from = span.from;
-    let mut i = 0;
-    while i < span.count {
-        bytes[i] = s[from + i];
-        i += 1;
+    if let Some(d) = d {
+        let rest = bytes_behind(s, d.first);
+        let most = d.parameters.min(MAX_PARAMETERS);
+        let count = most.min(rest.len());
+        // By `copy_from_slice` over a length that varies, 3 instructions more for each taken slot of a table that is judged.
+        for p in 0..count {
+            bytes[p] = rest[p];
+        }
     }
     bytes
 }
@@ -222,38 +203,24 @@ pub fn parameter_bytes(s: &[u8], d: Device) -> [u8; MAX_PARAMETERS]
 fn parameter_byte(s: &[u8], first: usize, index: usize) -> u8
     ensures { result ≡ parameter_byte s.now (first + index) }
 {
-    if s.len() <= first {
-        return 0;
-    }
-    let from = 3 + 2 * number_at(s, 0) + first;
-    if s.len() <= from {
-        return 0;
-    }
-    if index < s.len() - from {
-        return s[from + index];
-    }
-    0
+    let bytes = bytes_behind(s, first);
+    wire::byte_at(bytes, index)
 }
 
 // Parameter `index` of a device type.
-fn parameter_of(s: &[u8], d: Device, index: usize) -> Parameter
-    ensures { result ≡ parameter_in s.now d index }
+fn parameter_of(s: &[u8], d: Device, index: usize) -> Option<Parameter>
+    ensures { result ≡ parameter_in s.now (Some d) index }
 {
     if index < d.parameters {
-        return describe(parameter_byte(s, d.first, index));
+        return Some(describe(parameter_byte(s, d.first, index)));
     }
-    Parameter {
-        known: false,
-        kind: INT,
-        readable: false,
-        writable: false,
-    }
+    None
 }
 
 // Parameter `index` of the device type of this number.
-pub fn find_parameter(s: &[u8], number: u8, index: usize) -> Parameter
+pub fn find_parameter(s: &[u8], number: u8, index: usize) -> Option<Parameter>
     ensures { result ≡ parameter_of s.now number index }
 {
-    let d = find_device(s, number);
+    let d = find_device(s, number)?;
     parameter_of(s, d, index)
 }

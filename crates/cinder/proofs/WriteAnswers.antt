@@ -7,17 +7,18 @@ use native.Mathlib.Omega.{arith}
 use lib.Dec.{ltb}
 use lib.ListN.{length}
 use borrow.Author.Tests.{ne_eqb, ltb-true, ltb-false}
+use Rattle.std.specs.Prelude as prelude
+use Rattle.std.specs.Prelude.{Ok, Err}
+use Rattle.errors.specs.declared.Error.{Error}
 use Rattle.packet.specs.TypeTable.{PING, ACK, DEVICE_WRITE, DEVICE_DATA, LOG, allows, allowed}
 use Rattle.packet.specs.Packet.{PACKET_ROOM}
 use Rattle.packet.proofs.Lengths.{zero-none}
-use Rattle.packet_encode.specs.declared.Encoded as packet-code
 use Rattle.packet_encode.specs.Encode as packet
 use Rattle.packet_encode.specs.Encode.{Writing, encoded}
 use Rattle.packet_encode.proofs.EncodeStages.{encoded-small, encoded-unknown}
-use Rattle.list_encode.specs.declared.Encoded as List-code
 use Rattle.list_encode.specs.Encode as list
 use Rattle.cinder.specs.declared.write_call.WriteResult.{WriteResult}
-use Rattle.cinder.specs.WriteCall.{WriteOutcome, packet_numbers, list_numbers, packet_write_call}
+use Rattle.cinder.specs.WriteCall.{WriteOutcome, writing_result, packet_numbers, list_numbers, packet_write_call}
 
 -- numbers beside the area
 abbrev pub beside : WriteResult → List ℕ → WriteOutcome
@@ -54,21 +55,31 @@ byte-type number payload area = go (ltb number 256) refl
         unknown 0 payload area (zero-none (length payload))
         ∙ sym (unknown number payload area (above-none number (length payload) (ltb-false number 256 e)))
 
--- what packet writing is answered by, from the case x of the answer a to the type k
+-- packet writing's answer is in numbers what its result is
+packet_result : (a : prelude.Result ℕ Error) → writing_result a ≡ packet_numbers (packet.result_of a)
+packet_result (Ok count) = refl
+packet_result (Err e) = refl
+
+-- likewise list writing's
+list_result : (a : prelude.Result ℕ Error) → writing_result a ≡ list_numbers (list.result_of a)
+list_result (Ok count) = refl
+list_result (Err e) = refl
+
+-- what packet writing is answered by, from the answer a to the type k
 pub packet-written :
-    (number k : ℕ) (payload area area' : List ℕ) (a x : packet-code.Encoded) (r : WriteResult) → k ≡ cond (ltb number 256) number 0
-    → a ≡ x → r ≡ packet_numbers (packet.result_of x) → record { result = packet.result_of a; buffer = area' } ≡ encoded k payload area
+    (number k : ℕ) (payload area area' : List ℕ) (a : prelude.Result ℕ Error) (r : WriteResult) → k ≡ cond (ltb number 256) number 0
+    → r ≡ writing_result a → record { result = packet.result_of a; buffer = area' } ≡ encoded k payload area
     → beside r area' ≡ packet_write_call number payload area
 unfolding packet_write_call
-packet-written number k payload area area' a x r t is e h =
-    ap (λ (z : WriteResult). beside z area') (e ∙ ap (λ (z : packet-code.Encoded). packet_numbers (packet.result_of z)) (sym is))
+packet-written number k payload area area' a r t e h =
+    ap (λ (z : WriteResult). beside z area') (e ∙ packet_result a)
     ∙ ap (λ (w : Writing). beside (packet_numbers w.result) w.buffer)
     (h ∙ ap (λ (z : ℕ). encoded z payload area) t ∙ byte-type number payload area)
 
 -- what list writing, in bytes or as text, is answered by
 pub rows_written :
-    (area' : List ℕ) (w : list.Outcome) (a x : List-code.Encoded) (r : WriteResult) → a ≡ x → r ≡ list_numbers (list.result_of x)
+    (area' : List ℕ) (w : list.Outcome) (a : prelude.Result ℕ Error) (r : WriteResult) → r ≡ writing_result a
     → list.outcome (list.result_of a) area' ≡ w → beside r area' ≡ beside (list_numbers w.result) w.buffer
-rows_written area' w a x r is e h =
-    ap (λ (z : WriteResult). beside z area') (e ∙ ap (λ (z : List-code.Encoded). list_numbers (list.result_of z)) (sym is))
+rows_written area' w a r e h =
+    ap (λ (z : WriteResult). beside z area') (e ∙ list_result a)
     ∙ ap (λ (w : list.Outcome). beside (list_numbers w.result) w.buffer) h

@@ -1,5 +1,8 @@
 -- Packet and list writing as firmware calls them, with numbers and byte areas.
-use Rattle.std.specs.Prelude.{ℕ, List}
+use Rattle.std.specs.Prelude.{ℕ, List, Ok, Err}
+use Rattle.std.specs.Prelude as prelude
+use Rattle.errors.specs.declared.Error.{Error}
+use Rattle.errors.specs.Number.{number_of}
 use Rattle.packet_encode.specs.Encode as packet
 use Rattle.packet_encode.specs.Encode.{encoded}
 use Rattle.list_encode.specs.Encode as list
@@ -13,6 +16,11 @@ wrote count = record { error = 0; written = count }
 -- "Each refusal returns its number": nothing is written
 abbrev pub not_written : ℕ → WriteResult
 not_written number = record { error = number; written = 0 }
+
+-- the code's answer in numbers
+abbrev pub writing_result : prelude.Result ℕ Error → WriteResult
+writing_result (Ok count) = wrote count
+writing_result (Err e) = not_written (number_of e)
 
 -- the numbers beside the lent area
 pub record WriteOutcome : Type 0 where

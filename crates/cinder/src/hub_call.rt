@@ -1,12 +1,12 @@
 // The hub's calls for C: numbers and byte areas only. The table is one of these areas.
 ghost use Rattle.std.specs.Prelude.{◌≡◌};
 ghost use Rattle.value.specs.Meaning.{meaning_of};
-ghost use Rattle.parameters.specs.Read.{held_of};
+ghost use Rattle.parameters.specs.Read.{finding_of};
 ghost use Rattle.cinder.specs.HubCall.{numbers_of, value_numbers, receive_call, detach_call, publish_call, read_call};
 
 use crate::packet_call::PacketResult;
-use crate::write_call::{WriteResult, not_written, wrote};
-use hub::{Answer, Content, Published, Reading, Receipt, Value};
+use crate::write_call::WriteResult;
+use hub::{Error, Value};
 
 // The number of the error, 0 for none, what is held (0 nothing, 1 a whole number, 2 a float, 3 a flag) and its bits; 0 on an error.
 #[repr(C)]
@@ -28,23 +28,32 @@ fn held(kind: u64, bits: u32) -> ValueResult
     }
 }
 
-fn numbers_of(v: Value) -> ValueResult
-    ensures { result ≡ numbers_of (meaning_of v) }
-{
-    match v {
-        Value::Int(i) => held(1, value::int_bits(i)),
-        Value::Float(x) => held(2, value::float_bits(x)),
-        Value::Bool(flag) => held(3, value::flag_bits(flag)),
-        Value::Nan(bits) => held(2, bits),
+impl From<Value> for ValueResult {
+    ghost from_gives = { λ v r. r ≡ numbers_of (meaning_of v) };
+
+    fn from(v: Value) -> ValueResult {
+        match v {
+            Value::Int(i) => held(1, value::int_bits(i)),
+            Value::Float(x) => held(2, value::float_bits(x)),
+            Value::Bool(flag) => held(3, value::flag_bits(flag)),
+            Value::Nan(bits) => held(2, bits),
+        }
     }
 }
 
-fn content_numbers(c: Content) -> ValueResult
-    ensures { result ≡ value_numbers (held_of c) }
-{
-    match c {
-        Content::Held(v) => numbers_of(v),
-        Content::Absent => held(0, 0),
+impl From<Result<Option<Value>, Error>> for ValueResult {
+    ghost from_gives = { λ answer r. r ≡ value_numbers (finding_of answer) };
+
+    fn from(answer: Result<Option<Value>, Error>) -> ValueResult {
+        match answer {
+            Ok(Some(v)) => ValueResult::from(v),
+            Ok(None) => held(0, 0),
+            Err(error) => ValueResult {
+                error: error.number() as u64,
+                kind: 0,
+                bits: 0,
+            },
+        }
     }
 }
 
@@ -58,17 +67,7 @@ pub extern "C" fn cinder_hub_receive(
 ) -> PacketResult
     ensures { record { answer = result; table = table.new } ≡ receive_call catalogue.now table.old socket bytes.now }
 {
-    let a = hub::receive(catalogue, table, socket, bytes);
-    match a {
-        Receipt::Accepted(consumed) => PacketResult {
-            error: 0,
-            consumed: consumed as u64,
-        },
-        Receipt::Refused(number) => PacketResult {
-            error: number as u64,
-            consumed: 0,
-        },
-    }
+    PacketResult::from(hub::receive(catalogue, table, socket, bytes))
 }
 
 // The device on a socket leaves. Answers the number of the error, 0 for none.
@@ -76,10 +75,9 @@ pub extern "C" fn cinder_hub_receive(
 pub extern "C" fn cinder_hub_detach(catalogue: &[u8], table: &mut [u8], socket: u64) -> u64
     ensures { record { answer = result; table = table.new } ≡ detach_call catalogue.now table.old socket }
 {
-    let a = hub::detach(catalogue, table, socket);
-    match a {
-        Answer::Accepted => 0,
-        Answer::Refused(number) => number as u64,
+    match hub::detach(catalogue, table, socket) {
+        Ok(()) => 0,
+        Err(error) => error.number() as u64,
     }
 }
 
@@ -88,11 +86,7 @@ pub extern "C" fn cinder_hub_detach(catalogue: &[u8], table: &mut [u8], socket: 
 pub extern "C" fn cinder_hub_publish(catalogue: &[u8], table: &[u8], list: &mut [u8]) -> WriteResult
     ensures { record { answer = result; area = list.new } ≡ publish_call catalogue.now table.now list.old }
 {
-    let p = hub::publish(catalogue, table, list);
-    match p {
-        Published::Written(count) => wrote(count),
-        Published::Refused(number) => not_written(number),
-    }
+    WriteResult::from(hub::publish(catalogue, table, list))
 }
 
 // One parameter of the device on a socket.
@@ -105,13 +99,5 @@ pub extern "C" fn cinder_hub_read(
 ) -> ValueResult
     ensures { result ≡ read_call catalogue.now table.now socket index }
 {
-    let reading = hub::read_parameter(catalogue, table, socket, index);
-    match reading {
-        Reading::Found(content) => content_numbers(content),
-        Reading::Refused(number) => ValueResult {
-            error: number as u64,
-            kind: 0,
-            bits: 0,
-        },
-    }
+    ValueResult::from(hub::read_parameter(catalogue, table, socket, index))
 }

@@ -1,4 +1,5 @@
 // The calls that firmware makes from C: the hub's, and the display's. include/cinder.h declares them.
+// Numbers go into their fields by `as`: Rust has no From<usize> for u64, and one way serves every field.
 #![tactic(auto)]
 
 mod hub_call;

@@ -20,31 +20,34 @@ pub struct ListResult {
     pub depth: u64,
 }
 
-// A list that was read.
-pub fn read(consumed: usize, rows: u32, stored: usize) -> ListResult
-    ensures { result ≡ list_read consumed rows stored }
-{
-    ListResult {
-        error: 0,
-        consumed: consumed as u64,
-        rows: rows as u64,
-        offset: 0,
-        stored: stored as u64,
-        depth: 0,
+impl From<Decoded> for ListResult {
+    ghost from_gives = { λ list r. r ≡ list_read list.consumed list.rows list.stored };
+
+    fn from(list: Decoded) -> ListResult {
+        ListResult {
+            error: 0,
+            consumed: list.consumed as u64,
+            rows: list.rows as u64,
+            offset: 0,
+            stored: list.stored as u64,
+            depth: 0,
+        }
     }
 }
 
-// A refusal: the one place where it becomes numbers for C.
-pub fn refused(refusal: Refusal) -> ListResult
-    ensures { result ≡ list_refused (refusal_of refusal) }
-{
-    ListResult {
-        error: refusal.error as u64,
-        consumed: 0,
-        rows: 0,
-        offset: refusal.offset as u64,
-        stored: 0,
-        depth: refusal.depth as u64,
+// The one place where a refusal becomes numbers for C.
+impl From<Refusal> for ListResult {
+    ghost from_gives = { λ refusal r. r ≡ list_refused (refusal_of refusal) };
+
+    fn from(refusal: Refusal) -> ListResult {
+        ListResult {
+            error: refusal.error.number() as u64,
+            consumed: 0,
+            rows: 0,
+            offset: refusal.offset as u64,
+            stored: 0,
+            depth: refusal.depth as u64,
+        }
     }
 }
 
@@ -53,13 +56,8 @@ pub fn refused(refusal: Refusal) -> ListResult
 pub extern "C" fn cinder_list_decode(bytes: &[u8], rows: &mut [u8], store: &mut [u8]) -> ListResult
     ensures { outcome result rows.new store.new ≡ list_call bytes.now rows.old store.old }
 {
-    let decoded = list_decode::decode(bytes, rows, store);
-    match decoded {
-        Decoded::List {
-            consumed,
-            rows: count,
-            stored,
-        } => read(consumed, count, stored),
-        Decoded::Refused(refusal) => refused(refusal),
+    match list_decode::decode(bytes, rows, store) {
+        Ok(list) => ListResult::from(list),
+        Err(refusal) => ListResult::from(refusal),
     }
 }

@@ -3,8 +3,15 @@ ghost use Rattle.std.specs.Prelude.{◌≡◌};
 ghost use Rattle.list_decode.specs.Decode.{outcome};
 ghost use Rattle.cinder.specs.StreamCall.{stream_call};
 
-use crate::list_call::{ListResult, read, refused};
-use stream::Step;
+use crate::list_call::ListResult;
+use list_decode::Decoded;
+
+// No list: at the end of a stream.
+const NOTHING: Decoded = Decoded {
+    consumed: 0,
+    rows: 0,
+    stored: 0,
+};
 
 // Reads the list at an offset into rows of 12 bytes each and a byte store; the stream's end consumes nothing, without an error.
 #[unsafe(no_mangle)]
@@ -16,14 +23,9 @@ pub extern "C" fn cinder_stream_next(
 ) -> ListResult
     ensures { outcome result rows.new store.new ≡ stream_call bytes.now offset rows.old store.old }
 {
-    let step = stream::next(bytes, offset as usize, rows, store);
-    match step {
-        Step::List {
-            consumed,
-            rows: count,
-            stored,
-        } => read(consumed, count, stored),
-        Step::End => read(0, 0, 0),
-        Step::Refused(refusal) => refused(refusal),
+    match stream::next(bytes, offset as usize, rows, store) {
+        Ok(Some(list)) => ListResult::from(list),
+        Ok(None) => ListResult::from(NOTHING),
+        Err(refusal) => ListResult::from(refusal),
     }
 }

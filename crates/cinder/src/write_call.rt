@@ -1,6 +1,8 @@
 // Writing packets and lists for C: numbers and byte areas only.
 ghost use Rattle.std.specs.Prelude.{◌≡◌, cond, ltb};
-ghost use Rattle.cinder.specs.WriteCall.{wrote, not_written, packet_write_call, list_write_call};
+ghost use Rattle.cinder.specs.WriteCall.{writing_result, packet_write_call, list_write_call};
+
+use errors::Error;
 
 // The number of the error, 0 for none, and the bytes written, 0 on an error.
 #[repr(C)]
@@ -10,26 +12,26 @@ pub struct WriteResult {
     pub written: u64,
 }
 
-// Bytes that were written.
-pub fn wrote(count: usize) -> WriteResult
-    ensures { result ≡ wrote count }
-{
-    WriteResult {
-        error: 0,
-        written: count as u64,
-    }
-}
+impl From<Result<usize, Error>> for WriteResult {
+    ghost from_gives = { λ answer r. r ≡ writing_result answer };
 
-pub fn not_written(number: u8) -> WriteResult
-    ensures { result ≡ not_written number }
-{
-    WriteResult {
-        error: number as u64,
-        written: 0,
+    fn from(answer: Result<usize, Error>) -> WriteResult {
+        match answer {
+            Ok(count) => WriteResult {
+                error: 0,
+                written: count as u64,
+            },
+            Err(error) => WriteResult {
+                error: error.number() as u64,
+                written: 0,
+            },
+        }
     }
 }
 
 // A message type as a byte: 0, which is no type, for a number above a byte.
+// Not by try_from and unwrap_or: what packet writing calls is named in the compiler's listing without types to choose
+// (tests/no_arrays.sh).
 fn type_byte(number: u64) -> u8
     ensures { result ≡ cond (ltb number 256) number 0 }
 {
@@ -48,11 +50,7 @@ pub extern "C" fn cinder_packet_encode(
 ) -> WriteResult
     ensures { record { answer = result; area = packet.new } ≡ packet_write_call number payload.now packet.old }
 {
-    let e = packet_encode::encode(type_byte(number), payload, packet);
-    match e {
-        packet_encode::Encoded::Written(count) => wrote(count),
-        packet_encode::Encoded::Refused(number) => not_written(number),
-    }
+    WriteResult::from(packet_encode::encode(type_byte(number), payload, packet))
 }
 
 // Writes the list of rows, 12 bytes each, and a byte store to the front of the area.
@@ -60,9 +58,5 @@ pub extern "C" fn cinder_packet_encode(
 pub extern "C" fn cinder_list_encode(rows: &[u8], store: &[u8], list: &mut [u8]) -> WriteResult
     ensures { record { answer = result; area = list.new } ≡ list_write_call rows.now store.now list.old }
 {
-    let e = list_encode::encode(rows, store, list);
-    match e {
-        list_encode::Encoded::Written(count) => wrote(count),
-        list_encode::Encoded::Refused(number) => not_written(number),
-    }
+    WriteResult::from(list_encode::encode(rows, store, list))
 }

@@ -4,10 +4,12 @@ use Prim.Native.Nat.{ℕ, ◌<◌}
 use mathlib.Core.Path.{◌≡◌, refl, sym, ap, ◌∙◌}
 use mathlib.Core.Bool.{Bool, true, false, cond}
 use mathlib.Core.List.{List, []}
-use mathlib.Core.Option.{Option, none, some}
+use mathlib.Core.Option as option
+use mathlib.Core.Option.{none, some}
 use native.Mathlib.Omega.{arith}
 use lib.Dec.{eqb}
 use lib.ListN.{length}
+use Rattle.std.specs.Prelude.{Option, Some, None}
 use Rattle.wire.specs.Number.{Bytes}
 use Rattle.packet.specs.TypeTable.{ACK, DEVICE_DATA, LOG}
 use Rattle.packet.specs.Packet.{Judgement, Reading, decoded}
@@ -17,8 +19,6 @@ use Rattle.slot.specs.declared.Slot.{Slot}
 use Rattle.slot.proofs.Rows.{same-slot}
 use Rattle.table.specs.Places.{slot_count, socket_count, table_size, place_of, free_of, is_slot, row_at, row_of}
 use Rattle.table.specs.Change.{Verdict, accepted, refused, Change, becomes, denied, changed_at}
-use Rattle.table.specs.declared.Place.{Place}
-use Rattle.table.specs.declared.Place.TheVariants.{At, Nowhere}
 use Rattle.table.proofs.Tests.{never}
 use Rattle.table.proofs.Searches.{holds_parts, place_found}
 use Rattle.table.proofs.Changes.{FitsChange}
@@ -63,7 +63,7 @@ abbrev pub row_after : ℕ → Receiving → RowReceiving
 row_after socket r = record { outcome = r.outcome; row = row_of slot_count r.table socket }
 
 -- what a leave answers to a socket with this row; 15 to one without
-abbrev pub leave_answer : Option Slot → Verdict
+abbrev pub leave_answer : option.Option Slot → Verdict
 leave_answer (some own) = accepted
 leave_answer none = refused 15
 
@@ -77,7 +77,7 @@ own_row slots sockets c t socket i row h l e u q =
     ap (row_at t) (ap (place_of slots t) (sym (ap (λ (s : Slot). s.socket) e ∙ q)) ∙ own) ∙ ap some e
 
 -- the row that a change leaves; a refusal keeps the row
-abbrev row_left : Option Slot → Change → Option Slot
+abbrev row_left : option.Option Slot → Change → option.Option Slot
 row_left own (becomes row) = some row
 row_left own (denied number) = own
 
@@ -87,37 +87,37 @@ is_denied (denied number) = true
 
 -- LAW: where the table is lawful afterwards, a row of the socket that a change leaves is the socket's row
 pub changed_row :
-    (slots sockets : ℕ) (c t : List ℕ) (socket : ℕ) (p : Place) (x : Change) → length t ≡ table_size slots → FitsChange x →
+    (slots sockets : ℕ) (c t : List ℕ) (socket : ℕ) (p : Option ℕ) (x : Change) → length t ≡ table_size slots → FitsChange x →
     lawful slots sockets c (changed_at t p x).table ≡ true →
-    ((row : Slot) → x ≡ becomes row → (i : ℕ) × (p ≡ At i) × (i < slots) × (row.taken ≡ true) × (row.socket ≡ socket)) →
+    ((row : Slot) → x ≡ becomes row → (i : ℕ) × (p ≡ Some i) × (i < slots) × (row.taken ≡ true) × (row.socket ≡ socket)) →
     row_of slots (changed_at t p x).table socket ≡ row_left (row_of slots t socket) x
-changed_row slots sockets c t socket (At i) (becomes row) n f h k =
+changed_row slots sockets c t socket (Some i) (becomes row) n f h k =
     let w = k row refl in
     let q : w.0 ≡ i = cc w.1 in
     let l : i < slots = rw q at w.2 in
     own_row slots sockets c (with_slot t i row) socket i row h l (same-slot t i row f (omega arith)) w.3 w.4
-changed_row slots sockets c t socket Nowhere (becomes row) n f h k = never (sym (ap is_slot (k row refl).1))
-changed_row slots sockets c t socket (At i) (denied number) n f h k = refl
-changed_row slots sockets c t socket Nowhere (denied number) n f h k = refl
+changed_row slots sockets c t socket None (becomes row) n f h k = never (sym (ap is_slot (k row refl).1))
+changed_row slots sockets c t socket (Some i) (denied number) n f h k = refl
+changed_row slots sockets c t socket None (denied number) n f h k = refl
 
 -- what a change answers, by the row that it leaves
 row-answer :
-    (t : List ℕ) (p : Place) (x : Change) (own r : Option Slot) (consumed : ℕ) → r ≡ row_left own x →
+    (t : List ℕ) (p : Option ℕ) (x : Change) (own r : option.Option Slot) (consumed : ℕ) → r ≡ row_left own x →
     record { outcome = answered_by (changed_at t p x).verdict consumed; row = r } ≡ row_answering own x consumed
-row-answer t (At i) (becomes row) own r consumed e = ap (λ y. record { outcome = receive.accepted consumed; row = y }) e
-row-answer t Nowhere (becomes row) own r consumed e = ap (λ y. record { outcome = receive.accepted consumed; row = y }) e
-row-answer t (At i) (denied number) own r consumed e = ap (λ y. record { outcome = receive.refused number; row = y }) e
-row-answer t Nowhere (denied number) own r consumed e = ap (λ y. record { outcome = receive.refused number; row = y }) e
+row-answer t (Some i) (becomes row) own r consumed e = ap (λ y. record { outcome = receive.accepted consumed; row = y }) e
+row-answer t None (becomes row) own r consumed e = ap (λ y. record { outcome = receive.accepted consumed; row = y }) e
+row-answer t (Some i) (denied number) own r consumed e = ap (λ y. record { outcome = receive.refused number; row = y }) e
+row-answer t None (denied number) own r consumed e = ap (λ y. record { outcome = receive.refused number; row = y }) e
 
 -- a row that DEVICE_DATA leaves is one of its socket, in the socket's slot
 data-own :
     (c t : List ℕ) (socket : ℕ) (payload : List ℕ) (row : Slot) → data_change c (row_of slot_count t socket) payload ≡ becomes row →
-    (i : ℕ) × (place_of slot_count t socket ≡ At i) × (i < slot_count) × (row.taken ≡ true) × (row.socket ≡ socket)
+    (i : ℕ) × (place_of slot_count t socket ≡ Some i) × (i < slot_count) × (row.taken ≡ true) × (row.socket ≡ socket)
 data-own c t socket payload row = go (place_of slot_count t socket) refl
   where
     at :
-        (v : Verdict) (i : ℕ) → place_of slot_count t socket ≡ At i → becomes_if v (stored c payload (slot_at t i)) ≡ becomes row →
-        (j : ℕ) × (At i ≡ At j) × (j < slot_count) × (row.taken ≡ true) × (row.socket ≡ socket)
+        (v : Verdict) (i : ℕ) → place_of slot_count t socket ≡ Some i → becomes_if v (stored c payload (slot_at t i)) ≡ becomes row →
+        (j : ℕ) × (Some i ≡ Some j) × (j < slot_count) × (row.taken ≡ true) × (row.socket ≡ socket)
     at accepted i e x =
         let f = place_found slot_count t socket i e in
         let o = holds_parts (slot_at t i) socket f.0 in
@@ -127,14 +127,14 @@ data-own c t socket payload row = go (place_of slot_count t socket) refl
     at (refused number) i e x = never (ap is_denied x)
 
     go :
-        (p : Place) → place_of slot_count t socket ≡ p → data_change c (row_at t p) payload ≡ becomes row →
-        (i : ℕ) × (p ≡ At i) × (i < slot_count) × (row.taken ≡ true) × (row.socket ≡ socket)
-    go (At i) e x = at (judged c (slot_at t i) payload) i e x
-    go Nowhere e x = never (ap is_denied x)
+        (p : Option ℕ) → place_of slot_count t socket ≡ p → data_change c (row_at t p) payload ≡ becomes row →
+        (i : ℕ) × (p ≡ Some i) × (i < slot_count) × (row.taken ≡ true) × (row.socket ≡ socket)
+    go (Some i) e x = at (judged c (slot_at t i) payload) i e x
+    go None e x = never (ap is_denied x)
 
 -- a call where 11, 9 and 10 are ruled out
 module _ (c t : List ℕ) (socket : ℕ) (a : admission slot_count socket_count c t socket ≡ accepted) where
-  abbrev own : Option Slot
+  abbrev own : option.Option Slot
   own = row_of slot_count t socket
 
   lawful-before : lawful slot_count socket_count c t ≡ true
@@ -214,9 +214,9 @@ module _ (c t : List ℕ) (socket : ℕ) (a : admission slot_count socket_count 
   unfolding detached
   detached-by-row = rw a (go (place_of slot_count t socket) refl, left-gone slot_count socket_count c t socket lawful-before)
     where
-      go : (p : Place) → place_of slot_count t socket ≡ p → (left slot_count t socket).verdict ≡ leave_answer (row_at t p)
-      go (At i) e = rw e
-      go Nowhere e = rw e
+      go : (p : Option ℕ) → place_of slot_count t socket ≡ p → (left slot_count t socket).verdict ≡ leave_answer (row_at t p)
+      go (Some i) e = rw e
+      go None e = rw e
 
   -- LAW: one parameter is read by the socket's row
   pub read-by-row : (index : ℕ) → read_of c t socket index ≡ finding c (row_of slot_count t socket) index
@@ -225,7 +225,7 @@ module _ (c t : List ℕ) (socket : ℕ) (a : admission slot_count socket_count 
 
 -- a packet that is no ACK is judged without the two facts
 no-ack :
-    (c : List ℕ) (socket : ℕ) (own : Option Slot) (j : Judgement) (message : List ℕ) (f g x y : Bool) → is_ack_by j ≡ false →
+    (c : List ℕ) (socket : ℕ) (own : option.Option Slot) (j : Judgement) (message : List ℕ) (f g x y : Bool) → is_ack_by j ≡ false →
     row_by_judgement c socket own j message f x ≡ row_by_judgement c socket own j message g y
 unfolding row_by_type
 no-ack c socket own (packet.accepted type n consumed) message f g x y e = rw e

@@ -5,14 +5,17 @@ use mathlib.Core.Bool.{Bool, true, false, cond, ◌&&◌}
 use mathlib.Core.List.{List}
 use mathlib.Core.Logic.Iff
 use mathlib.Core.Logic.{◌≢◌, ◌↔◌, ⊎_elim}
-use mathlib.Core.Option.{Option, none, some}
+use mathlib.Core.Option as option
+use mathlib.Core.Option.{none, some}
 use native.Mathlib.Omega.{arith}
 use lib.Dec.{eqb, ltb}
 use lib.ListN.{length}
+use Rattle.std.specs.Prelude.{Option, Some, None}
+use Rattle.std.specs.Option.{is_some}
 use Rattle.packet.specs.TypeTable.{ACK, DEVICE_DATA}
 use Rattle.packet.specs.Packet.{StartsWith, packet_error, decoded}
 use Rattle.catalogue.specs.Format.{legal}
-use Rattle.catalogue.specs.Lookup.{device_of, parameter_of}
+use Rattle.catalogue.specs.Lookup.{device_of, parameter_of, kind_in}
 use Rattle.value.specs.Meaning.{meant}
 use Rattle.slot.specs.Slot.{param_count, present_at, bits_at, empty_slot}
 use Rattle.slot.specs.Rows.{slot_at, with_slot}
@@ -20,14 +23,12 @@ use Rattle.slot.specs.declared.Slot.{Slot}
 use Rattle.table.specs.Places.{slot_count, socket_count, holds, place_of, free_of, row_at, row_of}
 use Rattle.table.specs.Change.{Verdict, Effect, acceptance, changed_at, if_accepted}
 use Rattle.table.specs.Change as change
-use Rattle.table.specs.declared.Place.{Place}
-use Rattle.table.specs.declared.Place.TheVariants.{At, Nowhere}
 use Rattle.table.proofs.Tests.{never}
 use Rattle.table.proofs.Changes.{is_accepted, number_of}
 use Rattle.lawful.specs.Lawful.{lawful, admission}
 use Rattle.lawful.proofs.Admission as adm
 use Rattle.attach.specs.Attach.{device_in, uid_in, ack_row, uid_free, or_free, place_for, assigned, leaving, left}
-use Rattle.attach.proofs.Facts.{Elsewhere, is_some, no_row}
+use Rattle.attach.proofs.Facts.{Elsewhere, has_row, no_row}
 use Rattle.attach.proofs.Acks.{assigned-12, assigned-14, assigned-13, assigned-accepted}
 use Rattle.attach.proofs.Leaving as leave
 use Rattle.attach.proofs.Keeps.{left-gone}
@@ -54,7 +55,7 @@ Absent t socket = (j : ℕ) → j < slot_count → holds (slot_at t j) socket �
 
 -- the socket's device has a slot, with a row of which this holds
 abbrev pub Own : List ℕ → ℕ → (Slot → Type 0) → Type 0
-Own t socket P = (i : ℕ) × (place_of slot_count t socket ≡ At i) × P (slot_at t i)
+Own t socket P = (i : ℕ) × (place_of slot_count t socket ≡ Some i) × P (slot_at t i)
 
 -- what is answered is what the change answers
 as-refused : (r : Receiving) (e : Effect) (consumed n : ℕ) → r ≡ answering e consumed → (r.outcome ≡ refused n) ↔ (e.verdict ≡ change.refused n)
@@ -110,10 +111,10 @@ module _ (c t : List ℕ) (socket : ℕ) (payload : List ℕ) where
   abbrev data_verdict : Verdict
   data_verdict = (data_applied slot_count c t socket payload).verdict
 
-  none-verdict : place_of slot_count t socket ≡ Nowhere → data_verdict ≡ change.refused 15
+  none-verdict : place_of slot_count t socket ≡ None → data_verdict ≡ change.refused 15
   none-verdict e = ap (λ (x : Effect). x.verdict) (data-none slot_count c t socket payload e)
 
-  own-verdict : (i : ℕ) → place_of slot_count t socket ≡ At i → data_verdict ≡ judged c (slot_at t i) payload
+  own-verdict : (i : ℕ) → place_of slot_count t socket ≡ Some i → data_verdict ≡ judged c (slot_at t i) payload
   own-verdict i e = go (judged c (slot_at t i) payload) refl
     where
       go : (v : Verdict) → judged c (slot_at t i) payload ≡ v → data_verdict ≡ v
@@ -124,23 +125,23 @@ module _ (c t : List ℕ) (socket : ℕ) (payload : List ℕ) where
   by-own : (v : Verdict) → number_of v ≢ 15 → (data_verdict ≡ v) ↔ Own t socket (λ r. judged c r payload ≡ v)
   by-own v ne = (to (place_of slot_count t socket) refl, λ h. own-verdict h.0 h.1 ∙ h.2)
     where
-      to : (p : Place) → place_of slot_count t socket ≡ p → data_verdict ≡ v → Own t socket (λ r. judged c r payload ≡ v)
-      to (At i) e h = (i, e, sym (own-verdict i e) ∙ h)
-      to Nowhere e h = absurd (ne (ap number_of (sym h ∙ none-verdict e)))
+      to : (p : Option ℕ) → place_of slot_count t socket ≡ p → data_verdict ≡ v → Own t socket (λ r. judged c r payload ≡ v)
+      to (Some i) e h = (i, e, sym (own-verdict i e) ∙ h)
+      to None e h = absurd (ne (ap number_of (sym h ∙ none-verdict e)))
 
   by-none : (data_verdict ≡ change.refused 15) ↔ Absent t socket
   by-none = Iff.trans (to (place_of slot_count t socket) refl, λ h. none-place h) (no_row slot_count t socket)
     where
-      to : (p : Place) → place_of slot_count t socket ≡ p → data_verdict ≡ change.refused 15 → row_at t p ≡ none
-      to (At i) e h = absurd (judged-not-15 c (slot_at t i) payload (ap number_of (sym (own-verdict i e) ∙ h)))
-      to Nowhere e h = refl
+      to : (p : Option ℕ) → place_of slot_count t socket ≡ p → data_verdict ≡ change.refused 15 → row_at t p ≡ none
+      to (Some i) e h = absurd (judged-not-15 c (slot_at t i) payload (ap number_of (sym (own-verdict i e) ∙ h)))
+      to None e h = refl
 
       none-place : row_of slot_count t socket ≡ none → data_verdict ≡ change.refused 15
       none-place = go (place_of slot_count t socket) refl
         where
-          go : (p : Place) → place_of slot_count t socket ≡ p → row_at t p ≡ none → data_verdict ≡ change.refused 15
-          go (At i) e h = never (ap is_some h)
-          go Nowhere e h = none-verdict e
+          go : (p : Option ℕ) → place_of slot_count t socket ≡ p → row_at t p ≡ none → data_verdict ≡ change.refused 15
+          go (Some i) e h = never (ap has_row h)
+          go None e h = none-verdict e
 
 -- the same fact of each row
 own-iff : (t : List ℕ) (socket : ℕ) (P Q : Slot → Type 0) → ((r : Slot) → P r ↔ Q r) → Own t socket P ↔ Own t socket Q
@@ -195,27 +196,27 @@ module _
           as-refused (received_of c t socket s) (assigned slot_count c t socket payload) consumed n (ack-received c t socket s a payload consumed w)
 
       -- LAW: an ACK is refused 12 exactly where its type is not in the catalogue
-      pub ack-12 : ((received_of c t socket s).outcome ≡ refused 12) ↔ ((device_of c (device_in payload)).known ≡ false)
+      pub ack-12 : ((received_of c t socket s).outcome ≡ refused 12) ↔ (is_some (device_of c (device_in payload)) ≡ false)
       ack-12 = Iff.trans (ack-number 12) (assigned-12 slot_count c t socket payload)
 
       -- LAW: 14 exactly where the type is known and a device on another socket has the UID
       pub ack-14 :
           ((received_of c t socket s).outcome ≡ refused 14) ↔
-          (((device_of c (device_in payload)).known ≡ true) × Elsewhere slot_count t socket (uid_in payload))
+          ((is_some (device_of c (device_in payload)) ≡ true) × Elsewhere slot_count t socket (uid_in payload))
       ack-14 = Iff.trans (ack-number 14) (assigned-14 slot_count c t socket payload)
 
       -- LAW: 13 exactly where the type is known, no device on another socket has the UID, no slot holds the socket and all are taken
       pub ack-13 :
           ((received_of c t socket s).outcome ≡ refused 13) ↔
-          (((device_of c (device_in payload)).known ≡ true) × (uid_free slot_count t socket (uid_in payload) ≡ true) × Absent t socket ×
+          ((is_some (device_of c (device_in payload)) ≡ true) × (uid_free slot_count t socket (uid_in payload) ≡ true) × Absent t socket ×
           ((j : ℕ) → j < slot_count → (slot_at t j).taken ≡ true))
       ack-13 = Iff.trans (ack-number 13) (assigned-13 slot_count c t socket payload)
 
       -- LAW: an ACK is accepted exactly where its type is known, no device on another socket has its UID and there is a slot for it
       pub ack-accepted :
           ((received_of c t socket s).outcome ≡ accepted consumed) ↔
-          (((device_of c (device_in payload)).known ≡ true) × (uid_free slot_count t socket (uid_in payload) ≡ true) ×
-          ((i : ℕ) × (place_for slot_count t socket ≡ At i)))
+          ((is_some (device_of c (device_in payload)) ≡ true) × (uid_free slot_count t socket (uid_in payload) ≡ true) ×
+          ((i : ℕ) × (place_for slot_count t socket ≡ Some i)))
       ack-accepted =
           Iff.trans
           (as-accepted (received_of c t socket s) (assigned slot_count c t socket payload) consumed (ack-received c t socket s a payload consumed w))
@@ -271,9 +272,9 @@ module _ (c t : List ℕ) (socket : ℕ) where
   left-number : (n : ℕ) → (left slot_count t socket).verdict ≡ change.refused n → n ≡ 15
   left-number n = go (place_of slot_count t socket)
     where
-      go : (p : Place) → (changed_at t p (leaving (row_at t p))).verdict ≡ change.refused n → n ≡ 15
-      go (At i) h = never (ap is_accepted h)
-      go Nowhere h = sym (ap number_of h)
+      go : (p : Option ℕ) → (changed_at t p (leaving (row_at t p))).verdict ≡ change.refused n → n ≡ 15
+      go (Some i) h = never (ap is_accepted h)
+      go None h = sym (ap number_of h)
 
   first-left : (n : ℕ) → n ≢ 15 → ((detached c t socket).verdict ≡ change.refused n) ↔ (admission slot_count socket_count c t socket ≡ change.refused n)
   unfolding detached
@@ -308,10 +309,10 @@ module _ (c t : List ℕ) (socket : ℕ) where
     detached-15 = rw detached-left (leave.left-15 slot_count t socket)
 
     -- LAW: and accepted exactly where it has a slot
-    pub detached-accepted : ((detached c t socket).verdict ≡ change.accepted) ↔ ((i : ℕ) × (place_of slot_count t socket ≡ At i))
+    pub detached-accepted : ((detached c t socket).verdict ≡ change.accepted) ↔ ((i : ℕ) × (place_of slot_count t socket ≡ Some i))
     detached-accepted = rw detached-left (leave.left-exactly slot_count t socket)
 
-    module _ (i : ℕ) (e : place_of slot_count t socket ≡ At i) where
+    module _ (i : ℕ) (e : place_of slot_count t socket ≡ Some i) where
       -- LAW: the leave of a seated socket puts an empty row into its slot
       pub detached-seated : detached c t socket ≡ acceptance (with_slot t i empty_slot)
       detached-seated = detached-left ∙ leave.left-accepted slot_count t socket i e
@@ -321,19 +322,19 @@ module _ (c t : List ℕ) (socket : ℕ) where
       detached-empties = rw detached-left (leave.left-empties slot_count t socket i e)
 
       -- LAW: and free, so that the next free one is not above it
-      pub detached-frees : (k : ℕ) × (free_of slot_count (detached c t socket).table ≡ At k) × (k ≤ i)
+      pub detached-frees : (k : ℕ) × (free_of slot_count (detached c t socket).table ≡ Some k) × (k ≤ i)
       detached-frees = rw detached-left (leave.slot-free-again slot_count t socket i e)
 
       module _ (all : (j : ℕ) → j < slot_count → (slot_at t j).taken ≡ true) where
         -- LAW: where the table was full it is the next free one
-        pub detached-next : free_of slot_count (detached c t socket).table ≡ At i
+        pub detached-next : free_of slot_count (detached c t socket).table ≡ Some i
         detached-next = rw detached-left (leave.slot-used-again slot_count t socket i e all)
 
         -- LAW: so that an ACK of a known type, with a UID at no other socket, from a socket without a slot is placed in it
         pub slot-used-again :
             (q : ℕ) (s payload : List ℕ) (consumed : ℕ) → q < socket_count → StartsWith s ACK payload consumed →
-            (device_of c (device_in payload)).known ≡ true → uid_free slot_count (detached c t socket).table q (uid_in payload) ≡ true →
-            place_of slot_count (detached c t socket).table q ≡ Nowhere →
+            is_some (device_of c (device_in payload)) ≡ true → uid_free slot_count (detached c t socket).table q (uid_in payload) ≡ true →
+            place_of slot_count (detached c t socket).table q ≡ None →
             received_of c (detached c t socket).table q s ≡ accepting (with_slot (detached c t socket).table i (ack_row q payload)) consumed
         slot-used-again q s payload consumed l w k f n =
             let m = adm.admitted-means slot_count socket_count c t socket a in
@@ -355,13 +356,13 @@ content-read : (c : List ℕ) (r : Slot) (index : ℕ) → number_read (content_
 unfolding content_of
 content-read c r index = go (ltb index param_count && present_at r index)
   where
-    go : (b : Bool) → number_read (cond b (held (meant (parameter_of c r.device index).kind (bits_at r index))) absent) ≡ 0
+    go : (b : Bool) → number_read (cond b (held (meant (kind_in (parameter_of c r.device index)) (bits_at r index))) absent) ≡ 0
     go true = refl
     go false = refl
 
 module _ (c t : List ℕ) (socket index : ℕ) where
   -- without 11, 9 and 10 a reading is refused with 15, where there is no row, or not at all
-  found_none : (n : ℕ) → n ≢ 0 → (own : Option Slot) → finding c own index ≡ read.refused n → (own ≡ none) × (n ≡ 15)
+  found_none : (n : ℕ) → n ≢ 0 → (own : option.Option Slot) → finding c own index ≡ read.refused n → (own ≡ none) × (n ≡ 15)
   found_none n ne (some r) h = absurd (ne (sym (ap number_read h) ∙ content-read c r index))
   found_none n ne none h = (refl, sym (ap number_read h))
 
@@ -394,7 +395,7 @@ module _ (c t : List ℕ) (socket index : ℕ) where
   read-15 a =
       rw a
       (Iff.trans
-      (λ h. (found_none 15 (λ e. omega arith) (row_of slot_count t socket) h).0, λ (e : row_of slot_count t socket ≡ none). ap (λ (x : Option Slot). finding c x index) e)
+      (λ h. (found_none 15 (λ e. omega arith) (row_of slot_count t socket) h).0, λ (e : row_of slot_count t socket ≡ none). ap (λ (x : option.Option Slot). finding c x index) e)
       (no_row slot_count t socket))
 
 -- POSTING

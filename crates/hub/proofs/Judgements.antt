@@ -5,14 +5,15 @@ use mathlib.Core.Bool.{true}
 use mathlib.Core.List.{List}
 use native.Mathlib.Omega.{arith}
 use lib.ListN.{length, length-append}
+use Rattle.std.specs.Prelude.{Result, Ok, Err}
+use Rattle.errors.specs.Number.{number_of}
+use Rattle.errors.specs.declared.Error.{Error}
 use Rattle.packet.specs.TypeTable.{ACK, DEVICE_DATA}
 use Rattle.packet.specs.Message.{message_of}
 use Rattle.packet.specs.Packet.{Reading, Judgement, accepted, decoded}
 use Rattle.packet.proofs.Accepted.{sound, sizes}
 use Rattle.table.specs.Places.{slot_count, socket_count}
 use Rattle.table.specs.Change.{Verdict, Effect, verdict_of, refusal}
-use Rattle.table.specs.declared.Answer.{Answer}
-use Rattle.table.specs.declared.Answer.TheVariants as answer
 use Rattle.lawful.specs.Lawful.{lawful, admission}
 use Rattle.lawful.proofs.Admission.{admitted-means}
 use Rattle.attach.specs.Attach.{assigned, left}
@@ -39,20 +40,20 @@ module _ (s : List ℕ) (j : Judgement) (copy : List ℕ) (e : record { judgemen
 
 -- an admission that is answered by a case has that case's verdict
 pub admitted-as :
-    (a case : Answer) (v : Verdict) → verdict_of a ≡ v → a ≡ case → v ≡ verdict_of case
+    (a case : Result (Unit {0}) Error) (v : Verdict) → verdict_of a ≡ v → a ≡ case → v ≡ verdict_of case
 admitted-as a case v e told = sym e ∙ ap verdict_of told
 
 -- a socket that is admitted is a byte
 pub socket-byte :
-    (c t : List ℕ) (socket : ℕ) (a : Answer) → verdict_of a ≡ admission slot_count socket_count c t socket → a ≡ answer.Accepted → socket < 256
-socket-byte c t socket a e told =
-    omega (arith, (admitted-means slot_count socket_count c t socket (admitted-as a answer.Accepted _ e told)).2)
+    (c t : List ℕ) (socket : ℕ) {a : Result (Unit {0}) Error} {u : Unit {0}} → verdict_of a ≡ admission slot_count socket_count c t socket → a ≡ Ok u → socket < 256
+socket-byte c t socket {a} {u} e told =
+    omega (arith, (admitted-means slot_count socket_count c t socket (admitted-as a (Ok u) _ e told)).2)
 
 -- and its table is lawful
 pub table-lawful :
-    (c t : List ℕ) (socket : ℕ) (a : Answer) → verdict_of a ≡ admission slot_count socket_count c t socket → a ≡ answer.Accepted →
+    (c t : List ℕ) (socket : ℕ) {a : Result (Unit {0}) Error} {u : Unit {0}} → verdict_of a ≡ admission slot_count socket_count c t socket → a ≡ Ok u →
     lawful slot_count socket_count c t ≡ true
-table-lawful c t socket a e told = (admitted-means slot_count socket_count c t socket (admitted-as a answer.Accepted _ e told)).1
+table-lawful c t socket {a} {u} e told = (admitted-means slot_count socket_count c t socket (admitted-as a (Ok u) _ e told)).1
 
 module _ (c t : List ℕ) (socket : ℕ) (payload : List ℕ) (consumed : ℕ) (v : Verdict) (after : List ℕ) (r : Outcome) (said : r ≡ answered_by v consumed) where
   -- what an ACK's effect on the table answers
@@ -72,27 +73,27 @@ module _ (c t : List ℕ) (socket : ℕ) (payload : List ℕ) (consumed : ℕ) (
       ap (λ (x : Effect). answering x consumed) (e ∙ applied-lawful slot_count c t socket payload socket_count h)
 
 -- WHAT IS ADMITTED, AND WHAT IS NOT
-module _ (c t : List ℕ) (socket : ℕ) (a : Answer) (e : verdict_of a ≡ admission slot_count socket_count c t socket) where
-  pub received-when : (s : List ℕ) (r : Receiving) → a ≡ answer.Accepted → r ≡ by_reading c t socket (decoded s) → r ≡ received_of c t socket s
+module _ (c t : List ℕ) (socket : ℕ) {a : Result (Unit {0}) Error} (e : verdict_of a ≡ admission slot_count socket_count c t socket) where
+  pub received-when : (s : List ℕ) (r : Receiving) {u : Unit {0}} → a ≡ Ok u → r ≡ by_reading c t socket (decoded s) → r ≡ received_of c t socket s
   unfolding received_of
-  received-when s r told h = rw (admitted-as a answer.Accepted _ e told) h
+  received-when s r {u} told h = rw (admitted-as a (Ok u) _ e told) h
 
-  pub received-not : (s : List ℕ) (n : ℕ) → a ≡ answer.Refused n → refusing t n ≡ received_of c t socket s
+  pub received-not : (s : List ℕ) {x : Error} → a ≡ Err x → refusing t (number_of x) ≡ received_of c t socket s
   unfolding received_of
-  received-not s n told = rw (admitted-as a (answer.Refused n) _ e told)
+  received-not s {x} told = rw (admitted-as a (Err x) _ e told)
 
-  pub detached-when : (x : Effect) → a ≡ answer.Accepted → x ≡ left slot_count t socket → x ≡ detached c t socket
+  pub detached-when : (x : Effect) {u : Unit {0}} → a ≡ Ok u → x ≡ left slot_count t socket → x ≡ detached c t socket
   unfolding detached
-  detached-when x told h = rw (admitted-as a answer.Accepted _ e told) h
+  detached-when x {u} told h = rw (admitted-as a (Ok u) _ e told) h
 
-  pub detached-not : (n : ℕ) → a ≡ answer.Refused n → refusal t n ≡ detached c t socket
+  pub detached-not : {x : Error} → a ≡ Err x → refusal t (number_of x) ≡ detached c t socket
   unfolding detached
-  detached-not n told = rw (admitted-as a (answer.Refused n) _ e told)
+  detached-not {x} told = rw (admitted-as a (Err x) _ e told)
 
-  pub read-when : (index : ℕ) (r : Finding) → a ≡ answer.Accepted → r ≡ found slot_count c t socket index → r ≡ read_of c t socket index
+  pub read-when : (index : ℕ) (r : Finding) {u : Unit {0}} → a ≡ Ok u → r ≡ found slot_count c t socket index → r ≡ read_of c t socket index
   unfolding read_of
-  read-when index r told h = rw (admitted-as a answer.Accepted _ e told) h
+  read-when index r {u} told h = rw (admitted-as a (Ok u) _ e told) h
 
-  pub read-not : (index n : ℕ) → a ≡ answer.Refused n → read.refused n ≡ read_of c t socket index
+  pub read-not : (index : ℕ) {x : Error} → a ≡ Err x → read.refused (number_of x) ≡ read_of c t socket index
   unfolding read_of
-  read-not index n told = rw (admitted-as a (answer.Refused n) _ e told)
+  read-not index {x} told = rw (admitted-as a (Err x) _ e told)

@@ -9,6 +9,7 @@ use native.Mathlib.Omega.{arith}
 use lib.Dec.{eqb}
 use lib.ListN.{length}
 use borrow.Author.Tests.{eq-eqb}
+use Rattle.std.specs.Prelude.{Option, Some}
 use Rattle.wire.specs.Number.{Bytes}
 use Rattle.packet.specs.TypeTable.{ACK, DEVICE_DATA, LOG}
 use Rattle.packet.specs.Packet.{Judgement, decoded}
@@ -18,8 +19,6 @@ use Rattle.slot.specs.declared.Slot.{Slot}
 use Rattle.table.specs.Places.{slot_count, socket_count, holds, place_of, free_of, is_slot, row_at, row_of}
 use Rattle.table.specs.Change.{Verdict, Effect, refusal, becomes, if_accepted}
 use Rattle.table.specs.Change as change
-use Rattle.table.specs.declared.Place.{Place}
-use Rattle.table.specs.declared.Place.TheVariants.{At}
 use Rattle.table.proofs.Tests.{never}
 use Rattle.table.proofs.Searches.{holds_parts, place_found}
 use Rattle.table.proofs.Changes.{row_left, Changed, changed-either, changed-length}
@@ -131,7 +130,7 @@ module _ (c t : List ℕ) (socket : ℕ) where
       s
 
   -- LAW: every slot but the one that an ACK from the socket is for is exactly as it was
-  pub slots_kept : (s : List ℕ) (j : ℕ) → place_for slot_count t socket ≢ At j → slot_at (received_of c t socket s).table j ≡ slot_at t j
+  pub slots_kept : (s : List ℕ) (j : ℕ) → place_for slot_count t socket ≢ Some j → slot_at (received_of c t socket s).table j ≡ slot_at t j
   slots_kept s j ne =
       by_cases c t socket
       (λ r. slot_at r.table j ≡ slot_at t j)
@@ -180,7 +179,7 @@ module _ (c t : List ℕ) (socket : ℕ) where
           let o = holds_parts (slot_at t j) socket (place_found slot_count t socket j w.place).0 in
           let same = data-same-device c payload (slot_at t j) in
           let e = row-left (judged c (slot_at t j) payload) (stored c payload (slot_at t j)) w.row
-          (ap (λ (p : Place). data_change c (row_at t p) payload) (sym w.place) ∙ w.change) in
+          (ap (λ (p : Option ℕ). data_change c (row_at t p) payload) (sym w.place) ∙ w.change) in
           rw (w.result, ← e)
           (own-holds (stored c payload (slot_at t j)) socket (same.taken-same ∙ o.0) (same.socket-same ∙ o.1))
 
@@ -226,7 +225,7 @@ module _ (c t : List ℕ) (socket : ℕ) where
       by_leave c t socket (λ e. e.verdict ≡ change.refused number → e.table ≡ t) (λ k e. refl) (left-refused slot_count t socket number)
 
   -- LAW: every slot but the socket's is exactly as it was
-  pub detached-slots : (j : ℕ) → place_of slot_count t socket ≢ At j → slot_at (detached c t socket).table j ≡ slot_at t j
+  pub detached-slots : (j : ℕ) → place_of slot_count t socket ≢ Some j → slot_at (detached c t socket).table j ≡ slot_at t j
   detached-slots j ne =
       by_leave c t socket (λ e. slot_at e.table j ≡ slot_at t j) (λ k. refl) (left-others slot_count t socket j ne)
 

@@ -8,6 +8,8 @@ use mathlib.Core.Logic.{◌⊎◌, inl, inr}
 use native.Mathlib.Omega.{arith}
 use lib.Dec.{eqb, ltb}
 use lib.ListN.{length, get_or, take}
+use Rattle.std.specs.Prelude.{Option, Some, None}
+use Rattle.std.specs.Option.{is_some}
 use Rattle.wire.specs.Zero.{has_zero}
 use Rattle.packet.specs.Cobs.{lacking, decoded_part}
 use Rattle.packet.specs.TypeTable.{ACK, DEVICE_DATA, LOG, allowed}
@@ -19,8 +21,6 @@ use Rattle.slot.specs.Rows.{slot_at}
 use Rattle.slot.specs.declared.Slot.{Slot}
 use Rattle.table.specs.Places.{slot_count, place_of, free_of, is_slot, row_at, row_of}
 use Rattle.table.specs.Change.{Verdict, accepted, refused, Change, becomes, denied, changed_at}
-use Rattle.table.specs.declared.Place.{Place}
-use Rattle.table.specs.declared.Place.TheVariants.{At, Nowhere}
 use Rattle.attach.specs.Attach.{device_in, uid_in, ack_row, has_slot, acked, uid_free, place_for, ack_change, assigned}
 use Rattle.parameters.specs.Data.{map_of, all_readable, size_of, all_flags, judged, stored, becomes_if, data_change, data_applied}
 use Rattle.hub.specs.Receive.{Outcome, Receiving, refusing, accepting, answered_by, answering, payload_in, by_type, by_judgement, by_reading}
@@ -76,11 +76,11 @@ abbrev pub AboveOutcome : Outcome → Type 0
 AboveOutcome (receive.accepted consumed) = Unit {0}
 AboveOutcome (receive.refused n) = 11 < n
 
-above-change : (t : List ℕ) (p : Place) (x : Change) → AboveChange x → Above (changed_at t p x).verdict
-above-change t (At i) (becomes row) h = tt
-above-change t Nowhere (becomes row) h = tt
-above-change t (At i) (denied n) h = h
-above-change t Nowhere (denied n) h = h
+above-change : (t : List ℕ) (p : Option ℕ) (x : Change) → AboveChange x → Above (changed_at t p x).verdict
+above-change t (Some i) (becomes row) h = tt
+above-change t None (becomes row) h = tt
+above-change t (Some i) (denied n) h = h
+above-change t None (denied n) h = h
 
 above-answer : (v : Verdict) (consumed : ℕ) → Above v → AboveOutcome (answered_by v consumed)
 above-answer accepted consumed h = tt
@@ -105,7 +105,7 @@ module _ (c t : List ℕ) (socket : ℕ) (payload : List ℕ) where
   ack-above : AboveChange (ack_change slot_count c t socket payload)
   unfolding acked
   ack-above =
-      go (device_of c (device_in payload)).known (uid_free slot_count t socket (uid_in payload))
+      go (is_some (device_of c (device_in payload))) (uid_free slot_count t socket (uid_in payload))
       (has_slot (row_of slot_count t socket) (is_slot (free_of slot_count t)))
     where
       go : (k f s : Bool) → AboveChange (cond k (cond f (cond s (becomes (ack_row socket payload)) (denied 13)) (denied 14)) (denied 12))
@@ -117,9 +117,9 @@ module _ (c t : List ℕ) (socket : ℕ) (payload : List ℕ) where
   data-above : AboveChange (data_change c (row_of slot_count t socket) payload)
   data-above = go (place_of slot_count t socket)
     where
-      go : (p : Place) → AboveChange (data_change c (row_at t p) payload)
-      go (At i) = above-leaves (judged c (slot_at t i) payload) (stored c payload (slot_at t i)) (judged-above c (slot_at t i) payload)
-      go Nowhere = omega arith
+      go : (p : Option ℕ) → AboveChange (data_change c (row_at t p) payload)
+      go (Some i) = above-leaves (judged c (slot_at t i) payload) (stored c payload (slot_at t i)) (judged-above c (slot_at t i) payload)
+      go None = omega arith
 
   -- LAW: a message is refused, by its type, with a number above 11
   pub type-above : (type consumed : ℕ) → AboveOutcome (by_type c t socket type payload consumed).outcome

@@ -7,6 +7,8 @@ use mathlib.Core.Logic.{◌≢◌}
 use native.Mathlib.Omega.{arith}
 use lib.Dec.{eqb}
 use lib.ListN.{length}
+use Rattle.std.specs.Prelude.{Some, None}
+use Rattle.std.specs.Option.{is_some}
 use Rattle.wire.specs.Number.{Bytes}
 use Rattle.packet.specs.TypeTable.{PING, ACK, DEVICE_WRITE, DEVICE_DATA, LOG}
 use Rattle.packet.specs.Packet.{StartsWith, Judgement, Reading, length_byte, packet_error, refusal, decoded}
@@ -21,7 +23,6 @@ use Rattle.slot.proofs.Rows.{slot-shaped}
 use Rattle.table.specs.Places.{slot_count, socket_count, place_of}
 use Rattle.table.specs.Change.{Verdict, Effect}
 use Rattle.table.specs.Change as change
-use Rattle.table.specs.declared.Place.TheVariants.{At, Nowhere}
 use Rattle.table.proofs.Tests.{never}
 use Rattle.lawful.specs.Lawful.{admission}
 use Rattle.lawful.proofs.Meaning.{lawful-means}
@@ -175,36 +176,36 @@ module _ (c t : List ℕ) (socket : ℕ) (s : List ℕ) (a : admission slot_coun
 
     -- LAW: an ACK is accepted where its type is in the catalogue, its UID on no other socket, and there is a slot for it
     pub ack-placed :
-        (i : ℕ) → StartsWith s ACK payload consumed → (device_of c (device_in payload)).known ≡ true →
-        uid_free slot_count t socket (uid_in payload) ≡ true → place_for slot_count t socket ≡ At i →
+        (i : ℕ) → StartsWith s ACK payload consumed → is_some (device_of c (device_in payload)) ≡ true →
+        uid_free slot_count t socket (uid_in payload) ≡ true → place_for slot_count t socket ≡ Some i →
         received_of c t socket s ≡ accepting (with_slot t i (ack_row socket payload)) consumed
     ack-placed i w k f e = ack-as _ w (ack-accepts slot_count c t socket payload k i f e)
 
     -- LAW: a second ACK is accepted in the socket's own slot; the old row is no reason for 14
     pub second-ack-received :
-        (i : ℕ) → StartsWith s ACK payload consumed → place_of slot_count t socket ≡ At i →
-        (device_of c (device_in payload)).known ≡ true → uid_in payload ≡ (slot_at t i).uid →
+        (i : ℕ) → StartsWith s ACK payload consumed → place_of slot_count t socket ≡ Some i →
+        is_some (device_of c (device_in payload)) ≡ true → uid_in payload ≡ (slot_at t i).uid →
         received_of c t socket s ≡ accepting (with_slot t i (ack_row socket payload)) consumed
     second-ack-received i w e k own =
         ack-as _ w (second-ack slot_count socket_count c t socket payload (admitted-means slot_count socket_count c t socket a).1 k i e own)
 
     -- LAW: so is a second ACK with another UID that is on no other socket, also where all slots are taken
     pub other-uid-received :
-        (i : ℕ) → StartsWith s ACK payload consumed → place_of slot_count t socket ≡ At i →
-        (device_of c (device_in payload)).known ≡ true → uid_free slot_count t socket (uid_in payload) ≡ true →
+        (i : ℕ) → StartsWith s ACK payload consumed → place_of slot_count t socket ≡ Some i →
+        is_some (device_of c (device_in payload)) ≡ true → uid_free slot_count t socket (uid_in payload) ≡ true →
         received_of c t socket s ≡ accepting (with_slot t i (ack_row socket payload)) consumed
     other-uid-received i w e k f = ack-as _ w (other-uid-ack slot_count c t socket payload k i f e)
 
     -- LAW: 14 where a device on another socket has the UID
     pub uid-taken-received :
-        StartsWith s ACK payload consumed → (device_of c (device_in payload)).known ≡ true →
+        StartsWith s ACK payload consumed → is_some (device_of c (device_in payload)) ≡ true →
         Elsewhere slot_count t socket (uid_in payload) → received_of c t socket s ≡ refusing t 14
     uid-taken-received w k x = ack-as _ w (uid-taken-ack slot_count c t socket payload k x)
 
     -- LAW: 13 where the socket has no slot and all are taken
     pub full-received :
-        StartsWith s ACK payload consumed → (device_of c (device_in payload)).known ≡ true →
-        uid_free slot_count t socket (uid_in payload) ≡ true → place_of slot_count t socket ≡ Nowhere →
+        StartsWith s ACK payload consumed → is_some (device_of c (device_in payload)) ≡ true →
+        uid_free slot_count t socket (uid_in payload) ≡ true → place_of slot_count t socket ≡ None →
         ((j : ℕ) → j < slot_count → (slot_at t j).taken ≡ true) → received_of c t socket s ≡ refusing t 13
     full-received w k f e all = ack-as _ w (full-ack slot_count c t socket payload k f e all)
 
@@ -218,7 +219,7 @@ module _ (c t : List ℕ) (socket : ℕ) (s : List ℕ) (a : admission slot_coun
     -- LAW: an accepted ACK puts the packet's device, with no values held, into the socket's own slot or else the lowest empty one
     pub ack-row :
         (n : ℕ) → StartsWith s ACK payload consumed → (received_of c t socket s).outcome ≡ accepted n →
-        (i : ℕ) × (place_for slot_count t socket ≡ At i) ×
+        (i : ℕ) × (place_for slot_count t socket ≡ Some i) ×
         (received_of c t socket s ≡ accepting (with_slot t i (ack_row socket payload)) consumed)
     ack-row n w h =
         let g = (assigned-accepted slot_count c t socket payload).0 (ack-judged n w h) in
@@ -228,7 +229,7 @@ module _ (c t : List ℕ) (socket : ℕ) (s : List ℕ) (a : admission slot_coun
     -- LAW: which then reads back as socket, type, year and UID of the packet, and no values
     pub ack-slot :
         (n : ℕ) → Bytes s → StartsWith s ACK payload consumed → (received_of c t socket s).outcome ≡ accepted n →
-        (i : ℕ) × (place_for slot_count t socket ≡ At i) × (i < slot_count) ×
+        (i : ℕ) × (place_for slot_count t socket ≡ Some i) × (i < slot_count) ×
         (slot_at (received_of c t socket s).table i ≡ ack_row socket payload)
     ack-slot n g w h =
         let m = admitted-means slot_count socket_count c t socket a in
@@ -239,7 +240,7 @@ module _ (c t : List ℕ) (socket : ℕ) (s : List ℕ) (a : admission slot_coun
 
     -- LAW: DEVICE_DATA that fits the device on the socket is accepted, and its values are in that device's row
     pub data-placed :
-        (i : ℕ) → StartsWith s DEVICE_DATA payload consumed → place_of slot_count t socket ≡ At i → Judged c (slot_at t i) payload →
+        (i : ℕ) → StartsWith s DEVICE_DATA payload consumed → place_of slot_count t socket ≡ Some i → Judged c (slot_at t i) payload →
         received_of c t socket s ≡ accepting (with_slot t i (stored c payload (slot_at t i))) consumed
     data-placed i w e j =
         data-received w ∙
@@ -256,7 +257,7 @@ module _ (c t : List ℕ) (socket : ℕ) (s : List ℕ) (a : admission slot_coun
     -- LAW: accepted DEVICE_DATA replaces the row of the socket's own slot
     pub data-row :
         (n : ℕ) → StartsWith s DEVICE_DATA payload consumed → (received_of c t socket s).outcome ≡ accepted n →
-        (i : ℕ) × (place_of slot_count t socket ≡ At i) ×
+        (i : ℕ) × (place_of slot_count t socket ≡ Some i) ×
         (received_of c t socket s ≡ accepting (with_slot t i (stored c payload (slot_at t i))) consumed)
     data-row n w h =
         let x = data-fitted n w h in (
@@ -269,7 +270,7 @@ module _ (c t : List ℕ) (socket : ℕ) (s : List ℕ) (a : admission slot_coun
     -- LAW: which then reads back as the old row with the packet's values
     pub data-slot :
         (n i : ℕ) → Bytes t → Bytes s → StartsWith s DEVICE_DATA payload consumed → (received_of c t socket s).outcome ≡ accepted n →
-        place_of slot_count t socket ≡ At i → slot_at (received_of c t socket s).table i ≡ stored c payload (slot_at t i)
+        place_of slot_count t socket ≡ Some i → slot_at (received_of c t socket s).table i ≡ stored c payload (slot_at t i)
     data-slot n i b g w h e =
         let x = data-fitted n w h in
         let q : x.index ≡ i = cc (sym x.place ∙ e) in
@@ -279,7 +280,7 @@ module _ (c t : List ℕ) (socket : ℕ) (s : List ℕ) (a : admission slot_coun
     -- LAW: each value is the packet's where the map names it, else the old one, and so is its presence
     pub data-values :
         (n i : ℕ) → Bytes t → Bytes s → StartsWith s DEVICE_DATA payload consumed → (received_of c t socket s).outcome ≡ accepted n →
-        place_of slot_count t socket ≡ At i → ValuesReplaced c payload (slot_at t i) (slot_at (received_of c t socket s).table i)
+        place_of slot_count t socket ≡ Some i → ValuesReplaced c payload (slot_at t i) (slot_at (received_of c t socket s).table i)
     data-values n i b g w h e =
         let z = slot-shaped t i in
         rw (data-slot n i b g w h e)

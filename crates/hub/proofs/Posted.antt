@@ -5,20 +5,19 @@ use mathlib.Core.Bool.{true}
 use mathlib.Core.List.{List}
 use mathlib.Core.Logic.{⊎_elim, ◌≢◌}
 use mathlib.Core.Option.{some}
+use Rattle.std.specs.Prelude.{Option, Some, None}
 use Rattle.wire.specs.Number.{Bytes}
 use Rattle.list.specs.Tree.{Elements}
 use Rattle.slot.specs.Rows.{slot_at}
 use Rattle.slot.specs.declared.Slot.{Slot}
 use Rattle.table.specs.Places.{slot_count, socket_count, holds, place_of, row_at, row_of}
-use Rattle.table.specs.declared.Place.{Place}
-use Rattle.table.specs.declared.Place.TheVariants.{At, Nowhere}
 use Rattle.table.proofs.Tests.{never}
 use Rattle.table.proofs.Searches.{holds_parts, place_found}
 use Rattle.table.proofs.Changes.{Changed, changed-either}
 use Rattle.lawful.specs.Lawful.{lawful}
 use Rattle.lawful.proofs.Meaning.{lawful-means}
 use Rattle.attach.specs.Attach.{leaving, left}
-use Rattle.attach.proofs.Facts.{is_some}
+use Rattle.attach.proofs.Facts.{has_row}
 use Rattle.attach.proofs.Leaving.{leave_fits, leave-row}
 use Rattle.publish.specs.Published.{device_row, published}
 use Rattle.publish.proofs.Order.{Has, first_of, list_of, device-has-row, row-is-device, row-alone}
@@ -39,7 +38,7 @@ first-socket c s = refl
 
 module _ (c t u : List ℕ) (socket : ℕ) (h : lawful slot_count socket_count c u ≡ true) (o : OthersIn t u socket) where
   -- the row of another socket is its row in the other table
-  row_in : (q i : ℕ) → q ≢ socket → place_of slot_count t q ≡ At i → row_of slot_count u q ≡ some (slot_at t i)
+  row_in : (q i : ℕ) → q ≢ socket → place_of slot_count t q ≡ Some i → row_of slot_count u q ≡ some (slot_at t i)
   row_in q i ne e =
       let f = place_found slot_count t q i e in
       let x = holds_parts (slot_at t i) q f.0 in
@@ -63,10 +62,10 @@ row_same :
     OthersIn t u socket → OthersIn u t socket → q ≢ socket → row_of slot_count u q ≡ row_of slot_count t q
 row_same c t u socket q ht hu o p ne = go (place_of slot_count t q) (place_of slot_count u q) refl refl
   where
-    go : (x y : Place) → place_of slot_count t q ≡ x → place_of slot_count u q ≡ y → row_at u y ≡ row_at t x
-    go (At i) y e f = ap (row_at u) (sym f) ∙ row_in c t u socket hu o q i ne e
-    go Nowhere (At i) e f = never (sym (ap is_some (sym (ap (row_at t) e) ∙ row_in c u t socket ht p q i ne f)))
-    go Nowhere Nowhere e f = refl
+    go : (x y : Option ℕ) → place_of slot_count t q ≡ x → place_of slot_count u q ≡ y → row_at u y ≡ row_at t x
+    go (Some i) y e f = ap (row_at u) (sym f) ∙ row_in c t u socket hu o q i ne e
+    go None (Some i) e f = never (sym (ap has_row (sym (ap (row_at t) e) ∙ row_in c u t socket ht p q i ne f)))
+    go None None e f = refl
 
 -- A PACKET
 module _

@@ -3,12 +3,13 @@ use Prim.Native.Nat.{ℕ, ◌≤◌, ◌<◌}
 use mathlib.Core.Path.{◌≡◌, refl, sym, ap, ◌∙◌}
 use mathlib.Core.Bool.{true, false}
 use mathlib.Core.List.{List}
+use Rattle.std.specs.Prelude.{Some}
 use Rattle.wire.specs.Number.{number_at, Bytes}
 use Rattle.list.specs.Tree.{int}
 use Rattle.packet.specs.TypeTable.{ACK, DEVICE_DATA}
 use Rattle.packet.specs.Packet.{StartsWith}
 use Rattle.catalogue.specs.Format.{kind_int}
-use Rattle.catalogue.specs.Lookup.{parameter_of}
+use Rattle.catalogue.specs.Lookup.{parameter_of, kind_in}
 use Rattle.value.specs.Meaning.{whole, int_of, int_bits, short_of, extended, meant}
 use Rattle.value.proofs.Shorts.{extended-small}
 use Rattle.slot.specs.Slot.{param_count}
@@ -18,7 +19,6 @@ use Rattle.slot.proofs.Filling.{number_small}
 use Rattle.slot.proofs.Rows.{slot-shaped}
 use Rattle.table.specs.Places.{slot_count, socket_count, place_of}
 use Rattle.table.specs.Change as change
-use Rattle.table.specs.declared.Place.TheVariants.{At}
 use Rattle.table.proofs.Searches.{holds_parts, place_found}
 use Rattle.lawful.specs.Lawful.{lawful, admission}
 use Rattle.lawful.proofs.Meaning.{lawful-means}
@@ -39,7 +39,7 @@ use Rattle.hub.proofs.Packets.{ack-slot, data-slot}
 
 -- LAW: where 11, 9 and 10 are ruled out a parameter of a seated socket reads as its row holds it
 pub row_read :
-    (c t : List ℕ) (socket i p : ℕ) → admission slot_count socket_count c t socket ≡ change.accepted → place_of slot_count t socket ≡ At i →
+    (c t : List ℕ) (socket i p : ℕ) → admission slot_count socket_count c t socket ≡ change.accepted → place_of slot_count t socket ≡ Some i →
     read_of c t socket p ≡ content_of c (slot_at t i) p
 unfolding read_of
 row_read c t socket i p a e = rw a (read_found slot_count c t socket i p e)
@@ -65,10 +65,10 @@ module _
         read_of c after socket p ≡ content_of c row p
     after_read i p row e l u q =
         let own = own-place slot_count socket_count c after i (lawful-means slot_count socket_count c after after-lawful) l (ap (λ (x : Slot). x.taken) e ∙ u) in
-        let place : place_of slot_count after socket ≡ At i = sym (ap (place_of slot_count after) (ap (λ (x : Slot). x.socket) e ∙ q)) ∙ own in
+        let place : place_of slot_count after socket ≡ Some i = sym (ap (place_of slot_count after) (ap (λ (x : Slot). x.socket) e ∙ q)) ∙ own in
         row_read c after socket i p admitted-again place ∙ ap (λ (x : Slot). content_of c x p) e
 
-    module _ (i : ℕ) (w : StartsWith s DEVICE_DATA payload consumed) (e : place_of slot_count t socket ≡ At i) (p : ℕ) where
+    module _ (i : ℕ) (w : StartsWith s DEVICE_DATA payload consumed) (e : place_of slot_count t socket ≡ Some i) (p : ℕ) where
       data-read : read_of c after socket p ≡ content_of c (stored c payload (slot_at t i)) p
       data-read =
           let f = place_found slot_count t socket i e in
@@ -81,12 +81,12 @@ module _
       pub named-read :
           p < param_count → named (map_of payload) p ≡ true →
           read_of c (received_of c t socket s).table socket p ≡
-          held (meant (parameter_of c (slot_at t i).device p).kind (value_in c (slot_at t i) (map_of payload) payload p))
+          held (meant (kind_in (parameter_of c (slot_at t i).device p)) (value_in c (slot_at t i) (map_of payload) payload p))
       named-read l m = data-read ∙ named-reads c payload (slot_at t i) (slot-shaped t i) p l m
 
       -- an INT that it names
       module _
-          (l : p < param_count) (m : named (map_of payload) p ≡ true) (k : (parameter_of c (slot_at t i).device p).kind ≡ kind_int)
+          (l : p < param_count) (m : named (map_of payload) p ≡ true) (k : (kind_in (parameter_of c (slot_at t i).device p)) ≡ kind_int)
         where
           payload-bytes : Bytes payload
           payload-bytes = starts-bytes s DEVICE_DATA payload consumed w g

@@ -12,7 +12,7 @@ use Rattle.wire.specs.Number.{Bytes}
 use Rattle.packet.specs.TypeTable.{ACK, DEVICE_DATA, LOG}
 use Rattle.packet.specs.Packet.{StartsWith, Judgement, decoded}
 use Rattle.packet.specs.Packet as packet
-use Rattle.catalogue.specs.Lookup.{parameter_of}
+use Rattle.catalogue.specs.Lookup.{parameter_of, kind_in}
 use Rattle.slot.specs.declared.Slot.{Slot}
 use Rattle.table.specs.Places.{slot_count, socket_count, row_of}
 use Rattle.table.specs.Change.{Verdict}
@@ -143,7 +143,7 @@ module _
     pub widths-behind-ack :
         (es : List Event) → ByteEvents es → StaysAll c (received_of c t socket bytes).table socket es →
         (u : Slot) × (row_of slot_count (after_all c (received_of c t socket bytes).table es) socket ≡ some u) ×
-        ((p : ℕ) → width_of c u p ≡ width (year_in payload) (parameter_of c (device_in payload) p).kind) ×
+        ((p : ℕ) → width_of c u p ≡ width (year_in payload) (kind_in (parameter_of c (device_in payload) p))) ×
         ((later : List ℕ) → judged c u later ≡ judged c (ack_row socket payload) later)
     widths-behind-ack es g k =
         let ack = ack_row socket payload in

@@ -1,5 +1,7 @@
 -- "A packet is handed in with its socket": what is answered, and the table afterwards.
-use Rattle.std.specs.Prelude.{ℕ, cond, List, eqb, take, drop}
+use Rattle.std.specs.Prelude.{ℕ, cond, List, eqb, take, drop, Result, Ok, Err}
+use Rattle.errors.specs.Number.{number_of}
+use Rattle.errors.specs.declared.Error.{Error}
 use Rattle.packet.specs.TypeTable.{ACK, DEVICE_DATA, LOG}
 use Rattle.packet.specs.Packet.{Judgement, Reading, decoded}
 use Rattle.packet.specs.Packet as packet
@@ -9,18 +11,16 @@ use Rattle.table.specs.Change as change
 use Rattle.lawful.specs.Lawful.{admission}
 use Rattle.attach.specs.Attach.{assigned}
 use Rattle.parameters.specs.Data.{data_applied}
-use Rattle.hub.specs.declared.Receipt.{Receipt}
-use Rattle.hub.specs.declared.Receipt.TheVariants.{Accepted, Refused}
 
 -- "an accepted one answers the bytes it took"; "Each refusal returns its number"
 pub data Outcome : Type 0 where
   accepted : (consumed : ℕ) → Outcome
   refused : (number : ℕ) → Outcome
 
--- the number or the value for each case of the answer
-abbrev pub outcome_of : Receipt → Outcome
-outcome_of (Accepted consumed) = accepted consumed
-outcome_of (Refused number) = refused number
+-- the bytes taken, or the number of the refusal, for each case of the answer
+abbrev pub outcome_of : Result ℕ Error → Outcome
+outcome_of (Ok consumed) = accepted consumed
+outcome_of (Err e) = refused (number_of e)
 
 -- an outcome beside the table afterwards
 pub record Receiving : Type 0 where

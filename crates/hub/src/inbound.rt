@@ -2,67 +2,54 @@
 ghost use Rattle.std.specs.Prelude.{◌≡◌, true};
 ghost use Rattle.packet.specs.Packet.{decoded};
 ghost use Rattle.table.specs.Places.{slot_count, socket_count};
-ghost use Rattle.table.specs.Change.{verdict_of};
 ghost use Rattle.lawful.specs.Lawful.{lawful};
-ghost use Rattle.hub.specs.Receive.{outcome_of, answered_by, by_reading, received_of};
+ghost use Rattle.hub.specs.Receive.{outcome_of, by_reading, received_of};
 
-use crate::Receipt;
-use packet::{ACK, DEVICE_DATA, LOG};
-use table::{Answer, SLOTS, SOCKETS};
+use errors::Error;
+use packet::MessageType;
+use table::{SLOTS, SOCKETS};
 
-// What a change of the table answers, where the packet is `consumed` bytes long.
-fn answer(a: Answer, consumed: usize) -> Receipt
-    ensures { outcome_of result ≡ answered_by (verdict_of a) consumed }
-{
-    match a {
-        Answer::Accepted => Receipt::Accepted(consumed),
-        Answer::Refused(number) => Receipt::Refused(number),
-    }
-}
-
-// The packet at the front of the bytes, where 11, 9 and 10 are ruled out: the packet's error, 19, then what its type asks. PING
-// and DEVICE_WRITE are for devices, not for the hub.
-fn take_in(catalogue: &[u8], table: &mut [u8], socket: u8, bytes: &[u8]) -> Receipt
+// The packet at the front of the bytes, where IllegalCatalogue, Unlawful and NoSocket are ruled out: the packet's error,
+// NotForHub, then what its type asks. PING and DEVICE_WRITE are for devices, not for the hub.
+fn take_in(catalogue: &[u8], table: &mut [u8], socket: u8, bytes: &[u8]) -> Result<usize, Error>
     requires { lawful slot_count socket_count catalogue.now table.old ≡ true }
     ensures { record { outcome = outcome_of result; table = table.new } ≡ by_reading catalogue.now table.old socket (decoded bytes.now) }
 {
     // The working copy is lent: one that the reader returns is copied on the way.
     let mut message = [0u8; packet::PACKET_ROOM];
     let a = packet::decode_into(bytes, &mut message);
-    let packet::Answer::Packet {
-        kind: message_type,
-        payload_len,
-        consumed,
-    } = a
-    else {
-        let packet::Answer::Refused(number) = a else {
-            // Not reached: an answer that is no packet is a refusal.
-            return Receipt::Refused(0);
+    let Ok(packet) = a else {
+        let Err(error) = a else {
+            // Not reached: an answer that is no packet is a refusal. DECISIONS, "Forms that 01 names", keeps the `let .. else`.
+            return Err(Error::NotForHub);
         };
-        return Receipt::Refused(number);
+        return Err(error);
     };
-    let payload = &message[2..2 + payload_len];
-    match message_type {
-        ACK => answer(
-            attach::assign(catalogue, table, SLOTS, socket, payload),
-            consumed,
-        ),
-        DEVICE_DATA => answer(
-            parameters::apply_data(catalogue, table, SLOTS, socket, payload),
-            consumed,
-        ),
-        LOG => Receipt::Accepted(consumed),
-        _ => Receipt::Refused(19),
+    let payload = &message[2..2 + packet.payload_len];
+    match packet.kind {
+        MessageType::Ack => {
+            attach::assign(catalogue, table, SLOTS, socket, payload)?;
+            Ok(packet.consumed)
+        }
+        MessageType::DeviceData => {
+            parameters::apply_data(catalogue, table, SLOTS, socket, payload)?;
+            Ok(packet.consumed)
+        }
+        MessageType::Log => Ok(packet.consumed),
+        MessageType::Ping | MessageType::DeviceWrite => Err(Error::NotForHub),
     }
 }
 
-// Receives the packet at the front of the bytes from a socket: 11, 9, 10, the packet's error, 19, then what its type asks.
-pub fn receive(catalogue: &[u8], table: &mut [u8], socket: u64, bytes: &[u8]) -> Receipt
+// Receives the packet at the front of the bytes from a socket: IllegalCatalogue, Unlawful, NoSocket, the packet's error,
+// NotForHub, then what its type asks.
+pub fn receive(
+    catalogue: &[u8],
+    table: &mut [u8],
+    socket: u64,
+    bytes: &[u8],
+) -> Result<usize, Error>
     ensures { record { outcome = outcome_of result; table = table.new } ≡ received_of catalogue.now table.old socket bytes.now }
 {
-    let a = lawful::admit(catalogue, &*table, SLOTS, SOCKETS, socket);
-    match a {
-        Answer::Accepted => take_in(catalogue, table, socket as u8, bytes),
-        Answer::Refused(number) => Receipt::Refused(number),
-    }
+    lawful::admit(catalogue, &*table, SLOTS, SOCKETS, socket)?;
+    take_in(catalogue, table, socket as u8, bytes)
 }

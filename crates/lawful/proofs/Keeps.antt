@@ -8,6 +8,8 @@ use native.Mathlib.Omega.{arith}
 use lib.Dec.{eqb}
 use lib.ListN.{length, take, drop, replicate, length-replicate, get_or-replicate, take-append-drop, drop_of_length-le}
 use lib.Seq.{drop-drop}
+use Rattle.std.specs.Option.{is_some}
+use Rattle.std.specs.Prelude.{Option, Some, None}
 use borrow.Author.Tests.{eqb-true, eqb-false}
 use Rattle.wire.specs.Every.{every}
 use Rattle.wire.specs.Number.{Bytes}
@@ -21,8 +23,6 @@ use Rattle.slot.proofs.Filling.{le-or-lt}
 use Rattle.slot.proofs.Rows.{slot-past, slot-here, row_back}
 use Rattle.table.specs.Places.{table_size, empty_table, place_of}
 use Rattle.table.specs.Change.{Change, becomes, changed_at}
-use Rattle.table.specs.declared.Place.{Place}
-use Rattle.table.specs.declared.Place.TheVariants.{At, Nowhere}
 use Rattle.table.proofs.Tests.{never}
 use Rattle.table.proofs.Searches.{holds_parts, holds_not, place_found, place_none}
 use Rattle.table.proofs.Changes.{FitsChange, Changed, changed-either, changed-length, changed-rows}
@@ -38,8 +38,8 @@ abbrev Suits : ℕ → ℕ → List ℕ → List ℕ → ℕ → Slot → Type 0
 Suits slots sockets c t i row = LawfulSlot sockets c row × ((j : ℕ) → j < slots → j ≢ i → Apart row (slot_at t j))
 
 module _
-    (slots sockets : ℕ) (c t : List ℕ) (p : Place) (x : Change)
-    (h : Lawful slots sockets c t) (f : FitsChange x) (suits : (i : ℕ) (row : Slot) → p ≡ At i → x ≡ becomes row → Suits slots sockets c t i row)
+    (slots sockets : ℕ) (c t : List ℕ) (p : Option ℕ) (x : Change)
+    (h : Lawful slots sockets c t) (f : FitsChange x) (suits : (i : ℕ) (row : Slot) → p ≡ Some i → x ≡ becomes row → Suits slots sockets c t i row)
   where
     abbrev after : List ℕ
     after = (changed_at t p x).table
@@ -66,7 +66,7 @@ module _
         ⊎_elim
         (λ (g : slot_at after m ≡ slot_at t m).
         rw (v.result, g) ((suits j v.row v.place v.change).1 m lm (λ q. ne (sym q))))
-        (λ (w : Changed t p x m). let q : At j ≡ At m = sym v.place ∙ w.place in absurd (ne cc))
+        (λ (w : Changed t p x m). let q : Some j ≡ Some m = sym v.place ∙ w.place in absurd (ne cc))
         (changed-either t p x f m))
         (changed-either t p x f j)
 
@@ -82,8 +82,8 @@ module _
 
 -- LAW: a change keeps a lawful table lawful where its row is lawful and differs from the other slots' rows
 pub changed-lawful :
-    (slots sockets : ℕ) (c t : List ℕ) (p : Place) (x : Change) → lawful slots sockets c t ≡ true → FitsChange x →
-    ((i : ℕ) (row : Slot) → p ≡ At i → x ≡ becomes row →
+    (slots sockets : ℕ) (c t : List ℕ) (p : Option ℕ) (x : Change) → lawful slots sockets c t ≡ true → FitsChange x →
+    ((i : ℕ) (row : Slot) → p ≡ Some i → x ≡ becomes row →
     LawfulSlot sockets c row × ((j : ℕ) → j < slots → j ≢ i → Apart row (slot_at t j))) →
     lawful slots sockets c (changed_at t p x).table ≡ true
 changed-lawful slots sockets c t p x h f suits =
@@ -91,7 +91,7 @@ changed-lawful slots sockets c t p x h f suits =
 
 -- LAW: a row with no values held is lawful where its socket and its type are
 pub fresh-lawful :
-    (sockets : ℕ) (c : List ℕ) (socket device year uid : ℕ) → socket < sockets → (device_of c device).known ≡ true →
+    (sockets : ℕ) (c : List ℕ) (socket device year uid : ℕ) → socket < sockets → is_some (device_of c device) ≡ true →
     LawfulSlot sockets c (fresh_slot true socket device year uid)
 fresh-lawful sockets c socket device year uid l k =
     record {
@@ -120,19 +120,19 @@ empty-slot-lawful sockets c =
 -- LAW: in a lawful table a socket's device is found in its own slot
 pub own-place :
     (slots sockets : ℕ) (c t : List ℕ) (i : ℕ) → Lawful slots sockets c t → i < slots → (slot_at t i).taken ≡ true →
-    place_of slots t (slot_at t i).socket ≡ At i
+    place_of slots t (slot_at t i).socket ≡ Some i
 own-place slots sockets c t i h l u = go (place_of slots t (slot_at t i).socket) refl
   where
-    same : (j : ℕ) (b : Bool) → eqb j i ≡ b → place_of slots t (slot_at t i).socket ≡ At j → At j ≡ At i
-    same j true e f = ap At (eqb-true j i e)
+    same : (j : ℕ) (b : Bool) → eqb j i ≡ b → place_of slots t (slot_at t i).socket ≡ Some j → Some j ≡ Some i
+    same j true e f = ap Some (eqb-true j i e)
     same j false e f =
         let g = place_found slots t (slot_at t i).socket j f in
         let p = holds_parts (slot_at t j) (slot_at t i).socket g.0 in
         absurd (h.sockets-differ j i g.1 l (eqb-false j i e) p.0 u p.1)
 
-    go : (p : Place) → place_of slots t (slot_at t i).socket ≡ p → p ≡ At i
-    go Nowhere e = absurd (holds_not (slot_at t i) (slot_at t i).socket (place_none slots t (slot_at t i).socket e i l) u refl)
-    go (At j) e = same j (eqb j i) refl e
+    go : (p : Option ℕ) → place_of slots t (slot_at t i).socket ≡ p → p ≡ Some i
+    go None e = absurd (holds_not (slot_at t i) (slot_at t i).socket (place_none slots t (slot_at t i).socket e i l) u refl)
+    go (Some j) e = same j (eqb j i) refl e
 
 -- a part of zeros is zeros
 zeros-front : (n m : ℕ) → n ≤ m → take {A = ℕ} n (replicate m 0) ≡ replicate n 0

@@ -6,13 +6,15 @@ use mathlib.Core.List.{List}
 use mathlib.Core.Logic.{⊎_elim, ◌⊎◌, inl, inr, ◌≢◌}
 use native.Mathlib.Omega.{arith}
 use native.Mathlib.Nat.{eq-or-lt_of_le}
+use Rattle.std.specs.Option.{is_some}
+use Rattle.std.specs.Prelude.{Option}
 use lib.Dec.{eqb, ltb, leb}
 use lib.ListN.{length}
 use borrow.Author.Tests.{eq-eqb, ne_eqb, lt-ltb, le-leb, eqb-true, ltb-true, ltb-false, leb-true, not-true}
 use Rattle.wire.specs.Every.{every}
 use Rattle.wire.proofs.Chains.{and_left, and_right, and-true, every-at}
 use Rattle.catalogue.specs.Format.{kind_bool}
-use Rattle.catalogue.specs.Lookup.{device_of, parameter_of}
+use Rattle.catalogue.specs.Lookup.{device_of, parameter_of, is_readable, kind_in}
 use Rattle.catalogue.specs.declared.Parameter.{Parameter}
 use Rattle.slot.specs.Slot.{param_count, present_at, bits_at}
 use Rattle.slot.specs.Row.{is_row}
@@ -24,45 +26,45 @@ use Rattle.table.proofs.Tests.{never, imply, implied}
 use Rattle.lawful.specs.Lawful.{LawfulSlot, Lawful, value_lawful, held_lawful, nothing_held, slot_lawful, slots_differ, lawful_at, lawful}
 
 value-means :
-    (q : Parameter) (present : Bool) (bits : ℕ) → value_lawful q present bits ≡ true →
-    (present ≡ false → bits ≡ 0) × (present ≡ true → q.readable ≡ true) × (present ≡ true → q.kind ≡ kind_bool → bits ≤ 1)
+    (q : Option Parameter) (present : Bool) (bits : ℕ) → value_lawful q present bits ≡ true →
+    (present ≡ false → bits ≡ 0) × (present ≡ true → is_readable q ≡ true) × (present ≡ true → kind_in q ≡ kind_bool → bits ≤ 1)
 unfolding value_lawful
 value-means q true bits h = (
   λ e. never e,
-  λ e. and_left q.readable _ h,
-  λ e k. leb-true bits 1 (imply (eqb q.kind kind_bool) (leb bits 1) (and_right q.readable _ h) (eq-eqb q.kind kind_bool k)),
+  λ e. and_left (is_readable q) _ h,
+  λ e k. leb-true bits 1 (imply (eqb (kind_in q) kind_bool) (leb bits 1) (and_right (is_readable q) _ h) (eq-eqb (kind_in q) kind_bool k)),
 )
 value-means q false bits h = (λ e. eqb-true bits 0 h, λ e. never (sym e), λ e k. never (sym e))
 
 means-value :
-    (q : Parameter) (present : Bool) (bits : ℕ) → (present ≡ false → bits ≡ 0) → (present ≡ true → q.readable ≡ true) →
-    (present ≡ true → q.kind ≡ kind_bool → bits ≤ 1) → value_lawful q present bits ≡ true
+    (q : Option Parameter) (present : Bool) (bits : ℕ) → (present ≡ false → bits ≡ 0) → (present ≡ true → is_readable q ≡ true) →
+    (present ≡ true → kind_in q ≡ kind_bool → bits ≤ 1) → value_lawful q present bits ≡ true
 unfolding value_lawful
 means-value q true bits z r f =
-    and-true q.readable _ (r refl)
-    (implied (eqb q.kind kind_bool) (leb bits 1) (λ e. le-leb bits 1 (f refl (eqb-true q.kind kind_bool e))))
+    and-true (is_readable q) _ (r refl)
+    (implied (eqb (kind_in q) kind_bool) (leb bits 1) (λ e. le-leb bits 1 (f refl (eqb-true (kind_in q) kind_bool e))))
 means-value q false bits z r f = eq-eqb bits 0 (z refl)
 
 module _ (sockets : ℕ) (c : List ℕ) (s : Slot) where
   held-means :
       (p : ℕ) → held_lawful c s p ≡ true →
-      (present_at s p ≡ false → bits_at s p ≡ 0) × (present_at s p ≡ true → (parameter_of c s.device p).readable ≡ true) ×
-      (present_at s p ≡ true → (parameter_of c s.device p).kind ≡ kind_bool → bits_at s p ≤ 1)
+      (present_at s p ≡ false → bits_at s p ≡ 0) × (present_at s p ≡ true → is_readable (parameter_of c s.device p) ≡ true) ×
+      (present_at s p ≡ true → kind_in (parameter_of c s.device p) ≡ kind_bool → bits_at s p ≤ 1)
   unfolding held_lawful
   held-means p h = value-means (parameter_of c s.device p) (present_at s p) (bits_at s p) h
 
   taken-means :
-      s.taken ≡ true → (ltb s.socket sockets && ((device_of c s.device).known && every param_count (held_lawful c s))) ≡ true →
+      s.taken ≡ true → (ltb s.socket sockets && (is_some (device_of c s.device) && every param_count (held_lawful c s))) ≡ true →
       LawfulSlot sockets c s
   taken-means u h =
-      let k : ((device_of c s.device).known && every param_count (held_lawful c s)) ≡ true = and_right (ltb s.socket sockets) _ h in
-      let v : every param_count (held_lawful c s) ≡ true = and_right (device_of c s.device).known _ k in
+      let k : (is_some (device_of c s.device) && every param_count (held_lawful c s)) ≡ true = and_right (ltb s.socket sockets) _ h in
+      let v : every param_count (held_lawful c s) ≡ true = and_right (is_some (device_of c s.device)) _ k in
       record {
         socket-small = λ e. ltb-true s.socket sockets (and_left (ltb s.socket sockets) _ h);
         empty-zeros = λ e. never (sym u ∙ e);
         empty-absent = λ e. never (sym u ∙ e);
         absent-zero = λ p l. (held-means p (every-at param_count (held_lawful c s) v p l)).0;
-        type-known = λ e. and_left (device_of c s.device).known _ k;
+        type-known = λ e. and_left (is_some (device_of c s.device)) _ k;
         value-readable = λ p l. (held-means p (every-at param_count (held_lawful c s) v p l)).1;
         flag_small = λ p l. (held-means p (every-at param_count (held_lawful c s) v p l)).2;
       }
@@ -106,7 +108,7 @@ module _ (sockets : ℕ) (c : List ℕ) (s : Slot) where
     where
       go :
           (b : Bool) → s.taken ≡ b →
-          cond b (ltb s.socket sockets && ((device_of c s.device).known && every param_count (held_lawful c s)))
+          cond b (ltb s.socket sockets && (is_some (device_of c s.device) && every param_count (held_lawful c s)))
           (eqb s.socket 0 && (eqb s.device 0 && (eqb s.year 0 && (eqb s.uid 0 && every param_count (nothing_held s))))) ≡ true →
           LawfulSlot sockets c s
       go true u g = taken-means u g
@@ -130,7 +132,7 @@ module _ (sockets : ℕ) (c : List ℕ) (s : Slot) where
     where
       go :
           (b : Bool) → s.taken ≡ b →
-          cond b (ltb s.socket sockets && ((device_of c s.device).known && every param_count (held_lawful c s)))
+          cond b (ltb s.socket sockets && (is_some (device_of c s.device) && every param_count (held_lawful c s)))
           (eqb s.socket 0 && (eqb s.device 0 && (eqb s.year 0 && (eqb s.uid 0 && every param_count (nothing_held s))))) ≡ true
       go true u =
           and-true _ _ (lt-ltb s.socket sockets (m.socket-small u))

@@ -1,8 +1,9 @@
 -- "A table is lawful if .." (01, "The table"): the sentence as a record of facts, and the same as a test that computes.
-use Rattle.std.specs.Prelude.{ℕ, ◌<◌, ◌≤◌, ◌≡◌, Bool, true, false, ◌&&◌, ◌||◌, not, cond, List, ◌≢◌, ltb, leb, eqb, length}
+use Rattle.std.specs.Prelude.{ℕ, ◌<◌, ◌≤◌, ◌≡◌, Bool, true, false, ◌&&◌, ◌||◌, not, cond, List, ◌≢◌, ltb, leb, eqb, length, Option}
+use Rattle.std.specs.Option.{is_some}
 use Rattle.wire.specs.Every.{every}
 use Rattle.catalogue.specs.Format.{kind_bool, legal}
-use Rattle.catalogue.specs.Lookup.{device_of, parameter_of}
+use Rattle.catalogue.specs.Lookup.{device_of, parameter_of, is_readable, kind_in}
 use Rattle.catalogue.specs.declared.Parameter.{Parameter}
 use Rattle.slot.specs.Slot.{param_count, present_at, bits_at}
 use Rattle.slot.specs.Row.{is_row}
@@ -21,10 +22,10 @@ pub record LawfulSlot (sockets : ℕ) (c : List ℕ) (s : Slot) : Type 0 where
   -- "absent values are stored as zeros"
   pub absent-zero : (p : ℕ) → p < param_count → present_at s p ≡ false → bits_at s p ≡ 0
   -- "each type is in the catalogue"
-  pub type-known : s.taken ≡ true → (device_of c s.device).known ≡ true
+  pub type-known : s.taken ≡ true → is_some (device_of c s.device) ≡ true
   -- "each held value belongs to a readable parameter of that kind (flags 0 or 1)"
-  pub value-readable : (p : ℕ) → p < param_count → present_at s p ≡ true → (parameter_of c s.device p).readable ≡ true
-  pub flag_small : (p : ℕ) → p < param_count → present_at s p ≡ true → (parameter_of c s.device p).kind ≡ kind_bool → bits_at s p ≤ 1
+  pub value-readable : (p : ℕ) → p < param_count → present_at s p ≡ true → is_readable (parameter_of c s.device p) ≡ true
+  pub flag_small : (p : ℕ) → p < param_count → present_at s p ≡ true → kind_in (parameter_of c s.device p) ≡ kind_bool → bits_at s p ≤ 1
 
 -- a lawful table of so many slots and sockets: the sentence, of all slots
 pub record Lawful (slots sockets : ℕ) (c t : List ℕ) : Type 0 where
@@ -42,8 +43,8 @@ pub record Lawful (slots sockets : ℕ) (c t : List ℕ) : Type 0 where
       (slot_at t i).uid ≢ (slot_at t j).uid
 
 -- the test of one value: held ones are readable and a flag is 0 or 1, absent ones are zeros
-unfoldable pub value_lawful : Parameter → Bool → ℕ → Bool
-value_lawful p present bits = cond present (p.readable && (not (eqb p.kind kind_bool) || leb bits 1)) (eqb bits 0)
+unfoldable pub value_lawful : Option Parameter → Bool → ℕ → Bool
+value_lawful p present bits = cond present (is_readable p && (not (eqb (kind_in p) kind_bool) || leb bits 1)) (eqb bits 0)
 
 -- the same of parameter p, by the catalogue's kind of it
 unfoldable pub held_lawful : List ℕ → Slot → ℕ → Bool
@@ -56,7 +57,7 @@ nothing_held s p = not (present_at s p) && eqb (bits_at s p) 0
 -- the test of one slot
 unfoldable pub slot_lawful : ℕ → List ℕ → Slot → Bool
 slot_lawful sockets c s =
-    cond s.taken (ltb s.socket sockets && ((device_of c s.device).known && every param_count (held_lawful c s)))
+    cond s.taken (ltb s.socket sockets && (is_some (device_of c s.device) && every param_count (held_lawful c s)))
     (eqb s.socket 0 && (eqb s.device 0 && (eqb s.year 0 && (eqb s.uid 0 && every param_count (nothing_held s)))))
 
 -- two devices differ in socket and UID

@@ -1,7 +1,7 @@
 // Whether bytes are a lawful table under a catalogue.
 #![tactic(auto)]
 
-ghost use Rattle.std.specs.Prelude.{ℕ, ◌+◌, ◌*◌, ◌≤◌, ◌<◌, ◌≡◌, false, ltb, length, get_or};
+ghost use Rattle.std.specs.Prelude.{ℕ, ◌+◌, ◌*◌, ◌≤◌, ◌<◌, ◌≡◌, false, ltb, length, get_or, Some};
 ghost use Rattle.wire.specs.Every.{every};
 ghost use Rattle.catalogue.specs.Format.{described};
 ghost use Rattle.slot.specs.Slot.{param_count, present_at, bits_at};
@@ -10,9 +10,9 @@ ghost use Rattle.slot.specs.Rows.{slot_at};
 ghost use Rattle.table.specs.Change.{verdict_of};
 ghost use Rattle.lawful.specs.Lawful.{value_lawful, nothing_held, slot_lawful, slots_differ, lawful_at, lawful, admission};
 
-use catalogue::MAX_PARAMETERS;
+use catalogue::{Kind, MAX_PARAMETERS};
+use errors::Error;
 use slot::{Head, SLOT_BYTES, Slot};
-use table::Answer;
 
 // Which of the values are above a limit. The loops over parameters, here and below, look at every one, so that they have one
 // exit and can run on several at once; this one leaves a byte for each value, so that the loop over the flags works on bytes
@@ -21,35 +21,31 @@ fn above(bits: [u32; MAX_PARAMETERS], limit: u32) -> [bool; MAX_PARAMETERS]
     ensures { (p : ℕ) → p < param_count → get_or result p false ≡ ltb limit (get_or bits p 0) }
 {
     let mut found = [false; MAX_PARAMETERS];
-    let mut i = 0;
-    while i < MAX_PARAMETERS {
-        found[i] = limit < bits[i];
-        i += 1;
+    for (i, b) in bits.iter().enumerate() {
+        found[i] = limit < *b;
     }
     found
 }
 
 // A value by its parameter's byte, and whether its bits are above 0 and above 1.
 fn is_lawful_value(b: u8, present: bool, above0: bool, above1: bool) -> bool
-    ensures { (bits : ℕ) → above0 ≡ ltb 0 bits → above1 ≡ ltb 1 bits → result ≡ value_lawful (described b) present bits }
+    ensures { (bits : ℕ) → above0 ≡ ltb 0 bits → above1 ≡ ltb 1 bits → result ≡ value_lawful (Some (described b)) present bits }
 {
     let p = catalogue::describe(b);
-    let held = p.readable & ((p.kind != catalogue::BOOL) | !above1);
+    let held = p.readable & ((p.kind != Kind::Bool) | !above1);
     (present & held) | (!present & !above0)
 }
 
 // The values of a slot whose parameters have these bytes.
 fn are_lawful_values(bytes: [u8; MAX_PARAMETERS], s: Slot) -> bool
-    ensures { result ≡ every param_count (λ p. value_lawful (described (get_or bytes p 0)) (present_at s p) (bits_at s p)) }
+    ensures { result ≡ every param_count (λ p. value_lawful (Some (described (get_or bytes p 0))) (present_at s p) (bits_at s p)) }
 {
     let bits = s.bits;
     let above0 = above(bits, 0);
     let above1 = above(bits, 1);
     let mut lawful = true;
-    let mut i = 0;
-    while i < MAX_PARAMETERS {
-        lawful = lawful & is_lawful_value(bytes[i], s.present[i], above0[i], above1[i]);
-        i += 1;
+    for (i, b) in bytes.iter().enumerate() {
+        lawful &= is_lawful_value(*b, s.present[i], above0[i], above1[i]);
     }
     lawful
 }
@@ -58,10 +54,8 @@ fn holds_nothing(s: Slot) -> bool
     ensures { result ≡ every param_count (nothing_held s) }
 {
     let mut nothing = true;
-    let mut i = 0;
-    while i < MAX_PARAMETERS {
-        nothing = nothing & (!s.present[i] & (s.bits[i] == 0));
-        i += 1;
+    for i in 0..MAX_PARAMETERS {
+        nothing &= !s.present[i] & (s.bits[i] == 0);
     }
     nothing
 }
@@ -69,40 +63,20 @@ fn holds_nothing(s: Slot) -> bool
 fn is_lawful_slot(c: &[u8], s: Slot, sockets: u8) -> bool
     ensures { result ≡ slot_lawful sockets c.now s }
 {
-    if s.taken {
-        if s.socket < sockets {
-            let d = catalogue::find_device(c, s.device);
-            if d.known {
-                let bytes = catalogue::parameter_bytes(c, d);
-                return are_lawful_values(bytes, s);
-            }
-        }
+    if !s.taken {
+        return s.socket == 0 && s.device == 0 && s.year == 0 && s.uid == 0 && holds_nothing(s);
+    }
+    if s.socket >= sockets {
         return false;
     }
-    if s.socket == 0 {
-        if s.device == 0 {
-            if s.year == 0 {
-                if s.uid == 0 {
-                    return holds_nothing(s);
-                }
-            }
-        }
-    }
-    false
+    let d = catalogue::find_device(c, s.device);
+    d.is_some() && are_lawful_values(catalogue::parameter_bytes(c, d), s)
 }
 
 fn do_heads_differ(g: Head, h: Head) -> bool
     ensures { (s u : Slot) → g ≡ head_of s → h ≡ head_of u → result ≡ slots_differ s u }
 {
-    if g.taken {
-        if h.taken {
-            if g.socket == h.socket {
-                return false;
-            }
-            return g.uid != h.uid;
-        }
-    }
-    true
+    !(g.taken && h.taken) || (g.socket != h.socket && g.uid != h.uid)
 }
 
 // Slot i differs from those before it.
@@ -110,12 +84,9 @@ fn differs_from_before(t: &[u8], i: usize) -> bool
     ensures { result ≡ every i (λ j. slots_differ (slot_at t.now j) (slot_at t.now i)) }
 {
     let h = slot::head_at(t, i);
-    let mut j: usize = 0;
-    while j < i {
+    for j in 0..i {
         let g = slot::head_at(t, j);
-        if do_heads_differ(g, h) {
-            j += 1;
-        } else {
+        if !do_heads_differ(g, h) {
             return false;
         }
     }
@@ -149,29 +120,26 @@ pub fn is_lawful(c: &[u8], t: &[u8], slots: usize, sockets: u8) -> bool
     if t.len() % SLOT_BYTES != 0 {
         return false;
     }
-    let mut i: usize = 0;
-    while i < slots {
-        if is_lawful_at(c, t, i, sockets) {
-            i += 1;
-        } else {
+    for i in 0..slots {
+        if !is_lawful_at(c, t, i, sockets) {
             return false;
         }
     }
     true
 }
 
-// What a call for a socket is judged by first: 11, 9, 10.
-pub fn admit(c: &[u8], t: &[u8], slots: usize, sockets: u8, socket: u64) -> Answer
+// What a call for a socket is judged by first: IllegalCatalogue, Unlawful, NoSocket.
+pub fn admit(c: &[u8], t: &[u8], slots: usize, sockets: u8, socket: u64) -> Result<(), Error>
     ensures { verdict_of result ≡ admission slots sockets c.now t.now socket }
 {
-    if catalogue::is_legal(c) {
-        if is_lawful(c, t, slots, sockets) {
-            if socket < sockets as u64 {
-                return Answer::Accepted;
-            }
-            return Answer::Refused(10);
-        }
-        return Answer::Refused(9);
+    if !catalogue::is_legal(c) {
+        return Err(Error::IllegalCatalogue);
     }
-    Answer::Refused(11)
+    if !is_lawful(c, t, slots, sockets) {
+        return Err(Error::Unlawful);
+    }
+    if socket >= u64::from(sockets) {
+        return Err(Error::NoSocket);
+    }
+    Ok(())
 }

@@ -9,6 +9,8 @@ use lib.Seq.{take_all, take_at, take-add, length-take-le}
 use borrow.Author.Tests.{le-ltb, lt-ltb}
 use Rattle.wire.specs.Number.{Bytes}
 use Rattle.wire.specs.Area.{over}
+use Rattle.errors.specs.declared.Error.{Error}
+use Rattle.errors.specs.Number.{number_of}
 use Rattle.wire.proofs.ByteLists.{take-bytes, drop-bytes}
 use Rattle.packet.specs.Packet.{PACKET_ROOM, length_byte}
 use Rattle.packet_line.specs.declared.Finding.{Finding as Code}
@@ -118,7 +120,7 @@ pub record Left (s line' packet' text : List ℕ) (offset used consumed : ℕ) (
   pub fits : offset + consumed ≤ length s
   pub ends : a ≡ code.Nothing → take used text ++ end_line (offset + consumed) (state_in line') ≡ line_text s
   pub hands : a ≡ code.Packet → Handed s line' packet' text offset used consumed
-  pub refuses : (number : ℕ) → a ≡ code.Refused number → Refusal s line' text offset used consumed number
+  pub refuses : (e : Error) → a ≡ code.Refused e → Refusal s line' text offset used consumed (number_of e)
 
 -- a call on the bytes of a line from an offset on
 module _ (s line packet line' packet' text : List ℕ) (offset used consumed : ℕ) (a : Code) (done : Done s offset line (take used text))
@@ -225,15 +227,15 @@ module _ (s line packet line' packet' text : List ℕ) (offset used consumed : �
       go (good p) q w = handed-all p q
       go (refused m) q w = absurd (let z : ◌≡◌ {A = ℕ} 0 1 = cc in omega arith)
 
-  pub refusal-found : (number : ℕ) → a ≡ code.Refused number → Refusal s line' text offset used consumed number
-  refusal-found number e = go t.finding refl (by (code.Refused number) e)
+  pub refusal-found : (e : Error) → a ≡ code.Refused e → Refusal s line' text offset used consumed (number_of e)
+  refusal-found e is = go t.finding refl (by (code.Refused e) is)
     where
-      go : (g : Finding) → t.finding ≡ g → refusal number ≡ (in_areas g t.consumed (state_bytes t.state) packet).answer
-          → Refusal s line' text offset used consumed number
+      go : (g : Finding) → t.finding ≡ g → refusal (number_of e) ≡ (in_areas g t.consumed (state_bytes t.state) packet).answer
+          → Refusal s line' text offset used consumed (number_of e)
       go nothing q w = absurd (let z : ◌≡◌ {A = ℕ} 0 1 = cc in omega arith)
       go (good p) q w = absurd (let z : ◌≡◌ {A = ℕ} 0 1 = cc in omega arith)
       go (refused m) q w =
-          let same : number ≡ m = cc in
+          let same : number_of e ≡ m = cc in
           record {
             some = omega (arith, taken_is, refused-some st (drop offset s) m q);
             later = λ text' to added. next text' to (rw q (rw same at added));

@@ -7,10 +7,9 @@ use native.Mathlib.Omega.{arith}
 use lib.Dec.{ltb}
 use lib.ListN.{take}
 use borrow.Author.Tests.{ltb-true, ltb-false, lt-ltb}
+use Rattle.std.specs.Prelude.{Option, Some, None}
 use Rattle.list.specs.declared.Kind.{Kind}
 use Rattle.list.specs.declared.Kind.TheVariants.{Int, Float, Str, Blob, Vocab}
-use Rattle.list.specs.declared.KindFound.{KindFound}
-use Rattle.list.specs.declared.KindFound.TheVariants.{Is, Unknown}
 use Rattle.list.specs.Kind.{kind_of, list_code}
 use Rattle.list.specs.Parse.{word}
 use Rattle.list.specs.Open.{Open, uncounted, counted, Position, position, value_size, still_open, past_code, past_item, open_from, open_at}
@@ -41,21 +40,21 @@ module _ (s : List ℕ) (to : ℕ) where
   value-agree at lists Blob = word-there at (λ f. behind (omega arith) (omega arith)) (λ e. same (rw e))
 
   -- a code that is cut, whatever it names
-  code-behind : (b : List ℕ) (at : ℕ) (lists : List Open) (found : KindFound) → to < at + 4 → to < (past_code b at lists found).next
-  code-behind b at lists (Is k) f = omega arith
-  code-behind b at lists Unknown f = f
+  code-behind : (b : List ℕ) (at : ℕ) (lists : List Open) (found : Option Kind) → to < at + 4 → to < (past_code b at lists found).next
+  code-behind b at lists (Some k) f = omega arith
+  code-behind b at lists None f = f
 
-  code_agree : (at : ℕ) (lists : List Open) (found : KindFound) → word t at ≡ word s at → Agree (past_code t at lists found) (past_code s at lists found)
-  code_agree at lists (Is k) e = value-agree (at + 4) (still_open lists) k
-  code_agree at lists Unknown e = same (rw e)
+  code_agree : (at : ℕ) (lists : List Open) (found : Option Kind) → word t at ≡ word s at → Agree (past_code t at lists found) (past_code s at lists found)
+  code_agree at lists (Some k) e = value-agree (at + 4) (still_open lists) k
+  code_agree at lists None e = same (rw e)
 
   item-agree : (at : ℕ) (lists : List Open) → Agree (past_item t at lists) (past_item s at lists)
   item-agree at [] = same refl
   item-agree at (uncounted elements ∷ lists) = word-there at (λ f. behind f f) (λ e. same (rw e))
   item-agree at (counted elements zero ∷ lists) = same refl
-  item-agree at (counted (Is k) (suc left) ∷ lists) = value-agree at (still_open (counted (Is k) left ∷ lists)) k
-  item-agree at (counted Unknown (suc left) ∷ lists) =
-      let inner : List Open = counted Unknown left ∷ lists in
+  item-agree at (counted (Some k) (suc left) ∷ lists) = value-agree at (still_open (counted (Some k) left ∷ lists)) k
+  item-agree at (counted None (suc left) ∷ lists) =
+      let inner : List Open = counted None left ∷ lists in
       word-there at
       (λ f. behind (code-behind t at inner (kind_of (word t at)) f) (code-behind s at inner (kind_of (word s at)) f))
       (λ e. rw e (code_agree at inner (kind_of (word s at)) e))

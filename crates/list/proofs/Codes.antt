@@ -6,17 +6,16 @@ use mathlib.Core.Logic.{◌⊎◌, inl, inr, ⊎_elim}
 use native.Mathlib.Omega.{arith}
 use lib.Dec.{eqb}
 use borrow.Author.Tests.{eqb-true, ne_eqb, eq-eqb, le-leb, lt-leb}
+use Rattle.std.specs.Prelude.{Option, Some, None}
 use Rattle.list.specs.declared.Kind.{Kind}
 use Rattle.list.specs.declared.Kind.TheVariants.{Int, Float, Str, Blob, Vocab}
-use Rattle.list.specs.declared.KindFound.{KindFound}
-use Rattle.list.specs.declared.KindFound.TheVariants.{Is, Unknown}
 use Rattle.list.specs.Kind.{code_of, kind_of, list_code, typed_code}
 use Rattle.list.specs.Tree.{Value, Elements, none, value, list, kind}
 use Rattle.list.specs.Bytes.{common, common_of, code_for, list_code_of}
 use Rattle.list.specs.Parse.{is_list_code}
 
 -- a kind has its code, and the code names the kind
-pub kind-of-code : (k : Kind) → kind_of (code_of k) ≡ Is k
+pub kind-of-code : (k : Kind) → kind_of (code_of k) ≡ Some k
 unfolding kind_of
 kind-of-code Int = refl
 kind-of-code Float = refl
@@ -24,15 +23,15 @@ kind-of-code Str = refl
 kind-of-code Blob = refl
 kind-of-code Vocab = refl
 
-pub code-of-kind : (code : ℕ) (k : Kind) → kind_of code ≡ Is k → code ≡ code_of k
+pub code-of-kind : (code : ℕ) (k : Kind) → kind_of code ≡ Some k → code ≡ code_of k
 unfolding kind_of
 code-of-kind code k = go (eqb code 1) refl (eqb code 10) refl (eqb code 4) refl (eqb code 12) refl (eqb code 9) refl
   where
-    is : (n : ℕ) (l : Kind) → code_of l ≡ n → eqb code n ≡ true → Is l ≡ Is k → code ≡ code_of k
+    is : (n : ℕ) (l : Kind) → code_of l ≡ n → eqb code n ≡ true → Some l ≡ Some k → code ≡ code_of k
     is n l c e h = let q : l ≡ k = cc in eqb-true code n e ∙ sym c ∙ ap code_of q
 
     go : (a : Bool) → eqb code 1 ≡ a → (b : Bool) → eqb code 10 ≡ b → (c : Bool) → eqb code 4 ≡ c → (d : Bool) → eqb code 12 ≡ d → (e : Bool) → eqb code 9 ≡ e
-        → cond a (Is Int) (cond b (Is Float) (cond c (Is Str) (cond d (Is Blob) (cond e (Is Vocab) Unknown)))) ≡ Is k → code ≡ code_of k
+        → cond a (Some Int) (cond b (Some Float) (cond c (Some Str) (cond d (Some Blob) (cond e (Some Vocab) None)))) ≡ Some k → code ≡ code_of k
     go true p b q c r d u e v h = is 1 Int refl p h
     go false p true q c r d u e v h = is 10 Float refl q h
     go false p false q true r d u e v h = is 4 Str refl r h
@@ -50,15 +49,15 @@ code-low Vocab = omega arith
 -- two kinds with one code are one
 pub kind-same : (k l : Kind) → code_of k ≡ code_of l → k ≡ l
 kind-same k l e =
-    let f : Is k ≡ Is l = sym (kind-of-code k) ∙ ap kind_of e ∙ kind-of-code l in
+    let f : Some k ≡ Some l = sym (kind-of-code k) ∙ ap kind_of e ∙ kind-of-code l in
     cc
 
 -- what the codes of lists name, and which codes are a list's
-pub kind-of-list : kind_of (list_code - list_code) ≡ Unknown
+pub kind-of-list : kind_of (list_code - list_code) ≡ None
 unfolding kind_of
 kind-of-list = refl
 
-pub kind-of-typed : (k : Kind) → kind_of (typed_code k - list_code) ≡ Is k
+pub kind-of-typed : (k : Kind) → kind_of (typed_code k - list_code) ≡ Some k
 kind-of-typed k = let e : typed_code k - list_code ≡ code_of k = omega arith in rw e (kind-of-code k)
 
 pub typed-no-list : (k : Kind) → eqb (typed_code k) list_code ≡ false
@@ -69,17 +68,17 @@ unfolding is_list_code
 kind-no-list k = rw (ne_eqb (code_of k) list_code (λ e. omega (arith, (code-low k).1)), lt-leb list_code (code_of k) (code-low k).1)
 
 -- a code that is no kind's names none
-pub not-kind : (code : ℕ) → ((k : Kind) → code ≡ code_of k → ⊥) → kind_of code ≡ Unknown
+pub not-kind : (code : ℕ) → ((k : Kind) → code ≡ code_of k → ⊥) → kind_of code ≡ None
 not-kind code other = go (kind_of code) refl
   where
-    go : (found : KindFound) → kind_of code ≡ found → found ≡ Unknown
-    go (Is k) e = absurd (other k (code-of-kind code k e))
-    go Unknown e = refl
+    go : (found : Option Kind) → kind_of code ≡ found → found ≡ None
+    go (Some k) e = absurd (other k (code-of-kind code k e))
+    go None e = refl
 
-pub kind-not-list : (code : ℕ) (k : Kind) → kind_of code ≡ Is k → is_list_code code ≡ false
+pub kind-not-list : (code : ℕ) (k : Kind) → kind_of code ≡ Some k → is_list_code code ≡ false
 kind-not-list code k e = ap is_list_code (code-of-kind code k e) ∙ kind-no-list k
 
-pub list-no-kind : (code : ℕ) → is_list_code code ≡ true → kind_of code ≡ Unknown
+pub list-no-kind : (code : ℕ) → is_list_code code ≡ true → kind_of code ≡ None
 list-no-kind code h =
     not-kind code (λ k e. let y : is_list_code code ≡ false = ap is_list_code e ∙ kind-no-list k in let z : ◌≡◌ {A = ℕ} 0 1 = cc in omega arith)
 

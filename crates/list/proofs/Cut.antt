@@ -8,10 +8,9 @@ use lib.Dec.{ltb}
 use lib.ListN.{length, take, drop}
 use lib.Seq.{take-take, take_all, length-take-le}
 use borrow.Author.Tests.{ltb-true, ltb-false, le-ltb}
+use Rattle.std.specs.Prelude.{Option, Some, None}
 use Rattle.list.specs.declared.Kind.{Kind}
 use Rattle.list.specs.declared.Kind.TheVariants.{Int, Float, Str, Blob, Vocab}
-use Rattle.list.specs.declared.KindFound.{KindFound}
-use Rattle.list.specs.declared.KindFound.TheVariants.{Is, Unknown}
 use Rattle.wire.specs.Number.{le_value}
 use Rattle.list.specs.Limits.{depth_limit}
 use Rattle.list.specs.Kind.{kind_of, list_code}
@@ -100,9 +99,9 @@ module _ (limit : ℕ) (s : List ℕ) where
       (λ v next. ap (λ (p : Parsed Elements). and_then p (λ es end. good (value v es) end)) (typed-cut k n next))
 
   module _ (inner inner' : ℕ → ℕ → Parsed Elements) (same : (at code : ℕ) → inner at code ≡ inner' at code) where
-    coded-value-cut : (at : ℕ) (found : KindFound) → coded_value limit t at found ≡ coded_value limit s at found
-    coded-value-cut at (Is k) = rw (value-cut k (at + 4))
-    coded-value-cut at Unknown = refl
+    coded-value-cut : (at : ℕ) (found : Option Kind) → coded_value limit t at found ≡ coded_value limit s at found
+    coded-value-cut at (Some k) = rw (value-cut k (at + 4))
+    coded-value-cut at None = refl
 
     coded-cut : (at : ℕ) → coded_at inner limit t at ≡ coded_at inner' limit s at
     unfolding coded_at
@@ -115,9 +114,9 @@ module _ (limit : ℕ) (s : List ℕ) where
         then_same (coded_at inner limit t at) (coded_at inner' limit s at) _ _ (coded-cut at)
         (λ put next. ap (λ (p : Parsed Elements). and_then p (λ es end. good (put es) end)) (mixed-cut n next))
 
-    elements-cut : (found : KindFound) (n at : ℕ) → elements_at inner limit t found n at ≡ elements_at inner' limit s found n at
-    elements-cut (Is k) n at = typed-cut k n at
-    elements-cut Unknown n at = mixed-cut n at
+    elements-cut : (found : Option Kind) (n at : ℕ) → elements_at inner limit t found n at ≡ elements_at inner' limit s found n at
+    elements-cut (Some k) n at = typed-cut k n at
+    elements-cut None n at = mixed-cut n at
 
     body-cut : (at code : ℕ) → body_at inner limit t at code ≡ body_at inner' limit s at code
     unfolding body_at

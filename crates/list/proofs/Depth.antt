@@ -9,10 +9,9 @@ use native.Mathlib.Nat.{add_assoc}
 use lib.Dec.{eqb, ltb}
 use lib.ListN.{length, take, drop}
 use borrow.Author.Tests.{lt-ltb, le-ltb, ne_eqb}
+use Rattle.std.specs.Prelude.{Option, Some, None}
 use Rattle.list.specs.declared.Kind.{Kind}
 use Rattle.list.specs.declared.Kind.TheVariants.{Int, Float, Str, Blob, Vocab}
-use Rattle.list.specs.declared.KindFound.{KindFound}
-use Rattle.list.specs.declared.KindFound.TheVariants.{Is, Unknown}
 use Rattle.list.specs.Limits.{depth_limit}
 use Rattle.list.specs.Kind.{kind_of, size_of, list_code}
 use Rattle.list.specs.Tree.{Value, Elements}
@@ -130,15 +129,15 @@ module _ (limit : ℕ) (s : List ℕ) where
     value-reads Blob e = blob-reads (rw add_assoc e)
 
   typed-reads : (k : Kind) (os : List Open) (n at : ℕ)
-      → Reads (suc (length os)) (still_open (counted (Is k) n ∷ os)) at (still_open os) (typed_at limit s k n at)
+      → Reads (suc (length os)) (still_open (counted (Some k) n ∷ os)) at (still_open os) (typed_at limit s k n at)
   unfolding typed_at still_open
   typed-reads k os zero at = λ m r h. h
   typed-reads k os (suc n) at =
-      reads_then _ _ _ (still_open (counted (Is k) n ∷ os)) _ (value_at limit s at k) _ (value-reads (counted (Is k) (suc n) ∷ os) at at _ (omega arith) k refl) (λ v mid.
+      reads_then _ _ _ (still_open (counted (Some k) n ∷ os)) _ (value_at limit s at k) _ (value-reads (counted (Some k) (suc n) ∷ os) at at _ (omega arith) k refl) (λ v mid.
       reads_then _ _ _ (still_open os) _ (typed_at limit s k n mid) _ (typed-reads k os n mid) (λ es next m r h. h))
 
   -- what is to be shown of a refusal of the list whose code stands at `at`, where `os` are open: of 27 and 24 at the code, and of any behind it
-  record Judges (os : List Open) (found : KindFound) (at : ℕ) (B : Refusal → Type 0) : Type 0 where
+  record Judges (os : List Open) (found : Option Kind) (at : ℕ) (B : Refusal → Type 0) : Type 0 where
     too-deep : length os ≡ depth_limit → B (refusal 27 at)
     wrong-code : B (refusal_at 24 at 1)
     inside : (r : Refusal) → Stops (length os) (uncounted found ∷ os) (at + 4) r → B r
@@ -155,22 +154,22 @@ module _ (limit : ℕ) (s : List ℕ) where
   -- an element that follows its code at `at`, with n elements behind it
   module _ (os : List Open) (n at : ℕ) where
     abbrev lists : List Open
-    lists = counted Unknown (suc n) ∷ os
+    lists = counted None (suc n) ∷ os
 
     abbrev rest : List Open
-    rest = counted Unknown n ∷ os
+    rest = counted None n ∷ os
 
     in_code : at < (past_item s at lists).next
     in_code = by (kind_of (word s at))
       where
-        by : (found : KindFound) → at < (past_code s at rest found).next
-        by (Is k) = omega arith
-        by Unknown = omega arith
+        by : (found : Option Kind) → at < (past_code s at rest found).next
+        by (Some k) = omega arith
+        by None = omega arith
 
-    coded-value-reads : (found : KindFound) → kind_of (word s at) ≡ found → Reads (length lists) lists at (still_open rest) (coded_value limit s at found)
-    coded-value-reads (Is k) e =
+    coded-value-reads : (found : Option Kind) → kind_of (word s at) ≡ found → Reads (length lists) lists at (still_open rest) (coded_value limit s at found)
+    coded-value-reads (Some k) e =
         reads_then _ _ _ (still_open rest) _ (value_at limit s (at + 4) k) _ (value-reads lists at (at + 4) _ (omega arith) k (ap (past_code s at rest) e)) (λ v next m r h. h)
-    coded-value-reads Unknown e = stop-plain lists at 26 at (omega arith) in_code (refl, λ q. omega arith)
+    coded-value-reads None e = stop-plain lists at 26 at (omega arith) in_code (refl, λ q. omega arith)
 
     -- a list's code is an item of its own
     pass-code : is_list_code (word s at) ≡ true → Passes lists at (uncounted (kind_of (word s at - list_code)) ∷ rest) (at + 4)
@@ -193,17 +192,17 @@ module _ (limit : ℕ) (s : List ℕ) where
         (λ c. coded-value-reads (kind_of (word s at)) refl))
 
   mixed-reads : (d : ℕ) (inner : ℕ → ℕ → Parsed Elements) → ReadsLists d inner → (os : List Open) → d + suc (length os) ≡ depth_limit → (n at : ℕ)
-      → Reads (suc (length os)) (still_open (counted Unknown n ∷ os)) at (still_open os) (mixed_at inner limit s n at)
+      → Reads (suc (length os)) (still_open (counted None n ∷ os)) at (still_open os) (mixed_at inner limit s n at)
   unfolding mixed_at still_open
   mixed-reads d inner reads os deep zero at = λ m r h. h
   mixed-reads d inner reads os deep (suc n) at =
-      reads_then _ _ _ (still_open (counted Unknown n ∷ os)) _ (coded_at inner limit s at) _ (coded-reads os n at d inner reads deep) (λ put mid.
+      reads_then _ _ _ (still_open (counted None n ∷ os)) _ (coded_at inner limit s at) _ (coded-reads os n at d inner reads deep) (λ put mid.
       reads_then _ _ _ (still_open os) _ (mixed_at inner limit s n mid) _ (mixed-reads d inner reads os deep n mid) (λ es next m r h. h))
 
   elements-reads : (d : ℕ) (inner : ℕ → ℕ → Parsed Elements) → ReadsLists d inner → (os : List Open) → d + suc (length os) ≡ depth_limit
-      → (found : KindFound) (n at : ℕ) → Reads (suc (length os)) (still_open (counted found n ∷ os)) at (still_open os) (elements_at inner limit s found n at)
-  elements-reads d inner reads os deep (Is k) n at = typed-reads k os n at
-  elements-reads d inner reads os deep Unknown n at = mixed-reads d inner reads os deep n at
+      → (found : Option Kind) (n at : ℕ) → Reads (suc (length os)) (still_open (counted found n ∷ os)) at (still_open os) (elements_at inner limit s found n at)
+  elements-reads d inner reads os deep (Some k) n at = typed-reads k os n at
+  elements-reads d inner reads os deep None n at = mixed-reads d inner reads os deep n at
 
   -- one list more is open outside of a list's elements than outside of the list
   stops-enclosed : (m : ℕ) (lists : List Open) (at : ℕ) (r : Refusal) → Stops (suc m) lists at r → Stops m lists at (enclosed r)
@@ -214,13 +213,13 @@ module _ (limit : ℕ) (s : List ℕ) where
   }
 
   -- a list's count, which stands behind its code
-  pass-count : (os : List Open) (at : ℕ) (found : KindFound)
+  pass-count : (os : List Open) (at : ℕ) (found : Option Kind)
       → Passes (uncounted found ∷ os) (at + 4) (still_open (counted found (word s (at + 4)) ∷ os)) (at + 8)
   pass-count os at found = let e : at + 4 + 4 ≡ at + 8 = omega arith in pass (uncounted found ∷ os) (at + 4) _ (at + 8) (rw e) (omega arith)
 
   -- the list behind the code at `at`
   module _ (os : List Open) (at code : ℕ) (B : Refusal → Type 0) (judges : Judges os (kind_of (code - list_code)) at B) where
-    abbrev found : KindFound
+    abbrev found : Option Kind
     found = kind_of (code - list_code)
 
     stop-body : (r : Refusal) → Stops (suc (length os)) (uncounted found ∷ os) (at + 4) r → B (enclosed r)

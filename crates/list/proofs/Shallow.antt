@@ -5,10 +5,9 @@ use mathlib.Core.List.{List}
 use native.Mathlib.Omega.{arith}
 use lib.Dec.{eqb}
 use lib.ListN.{take, drop}
+use Rattle.std.specs.Prelude.{Option, Some, None}
 use Rattle.list.specs.declared.Kind.{Kind}
 use Rattle.list.specs.declared.Kind.TheVariants.{Int, Float, Str, Blob, Vocab}
-use Rattle.list.specs.declared.KindFound.{KindFound}
-use Rattle.list.specs.declared.KindFound.TheVariants.{Is, Unknown}
 use Rattle.list.specs.Limits.{depth_limit}
 use Rattle.list.specs.Kind.{kind_of, list_code}
 use Rattle.list.specs.Tree.{Elements}
@@ -46,9 +45,9 @@ module _ (limit : ℕ) (s : List ℕ) where
       next-step _ _ _ (typed_at limit s k n next) _ (typed d k n next) (λ es end _ _. tt))
 
   module _ (d : ℕ) (inner : ℕ → ℕ → Parsed Elements) (lists : (at code : ℕ) → AtMost d (inner at code)) where
-    found : (at : ℕ) (f : KindFound) → AtMost d (coded_value limit s at f)
-    found at (Is k) = next-step _ _ _ (value_at limit s (at + 4) k) _ (value d k (at + 4)) (λ v next _ _. tt)
-    found at Unknown = omega arith
+    found : (at : ℕ) (f : Option Kind) → AtMost d (coded_value limit s at f)
+    found at (Some k) = next-step _ _ _ (value_at limit s (at + 4) k) _ (value d k (at + 4)) (λ v next _ _. tt)
+    found at None = omega arith
 
     coded : (at : ℕ) → AtMost d (coded_at inner limit s at)
     unfolding coded_at
@@ -64,9 +63,9 @@ module _ (limit : ℕ) (s : List ℕ) where
         next-step _ _ _ (coded_at inner limit s at) _ (coded at) (λ put next _ _.
         next-step _ _ _ (mixed_at inner limit s n next) _ (mixed n next) (λ es end _ _. tt))
 
-    elements : (f : KindFound) (n at : ℕ) → AtMost d (elements_at inner limit s f n at)
-    elements (Is k) n at = typed d k n at
-    elements Unknown n at = mixed n at
+    elements : (f : Option Kind) (n at : ℕ) → AtMost d (elements_at inner limit s f n at)
+    elements (Some k) n at = typed d k n at
+    elements None n at = mixed n at
 
     body : (at code : ℕ) → AtMost d (body_at inner limit s at code)
     unfolding body_at

@@ -9,6 +9,7 @@ use lib.Dec.{eqb, ltb, leb}
 use lib.ListN.{length, take, drop, length-append, length-drop, take-append-drop}
 use lib.Seq.{take-take, drop-drop, length-take-le}
 use borrow.Author.Tests.{eqb-true, ltb-false, ne_eqb, not-true}
+use Rattle.std.specs.Prelude.{Option, Some, None}
 use Rattle.wire.specs.Number.{Bytes}
 use Rattle.wire.specs.Zero.{has_zero}
 use Rattle.wire.specs.Equal.{same}
@@ -17,8 +18,6 @@ use Rattle.wire.proofs.Chains.{and_left, and_right}
 use Rattle.wire.proofs.Numbers.{bytes-of-value, value-fits}
 use Rattle.list.specs.declared.Kind.{Kind}
 use Rattle.list.specs.declared.Kind.TheVariants.{Int, Float, Str, Blob, Vocab}
-use Rattle.list.specs.declared.KindFound.{KindFound}
-use Rattle.list.specs.declared.KindFound.TheVariants.{Is, Unknown}
 use Rattle.list.specs.Limits.{depth_limit}
 use Rattle.list.specs.Kind.{code_of, kind_of, list_code}
 use Rattle.list.specs.Tree.{Value, Elements, str, none, value, list, kind, count}
@@ -64,7 +63,7 @@ deep-list zero inner es p q = p
 deep-list (suc d) inner es p q = (p, q)
 
 -- a list code that names no kind is 256, and 256 names none
-code-mixed : (code : ℕ) → is_list_code code ≡ true → kind_of (code - list_code) ≡ Unknown → code ≡ list_code
+code-mixed : (code : ℕ) → is_list_code code ≡ true → kind_of (code - list_code) ≡ None → code ≡ list_code
 unfolding is_list_code
 code-mixed code h e = go (eqb code list_code) refl (rw e at h)
   where
@@ -72,24 +71,24 @@ code-mixed code h e = go (eqb code list_code) refl (rw e at h)
     go true q r = eqb-true code list_code q
     go false q r = absurd (let y : false ≡ true = and_right (leb list_code code) false r in let z : ◌≡◌ {A = ℕ} 0 1 = cc in omega arith)
 
-code-typed : (code : ℕ) (k : Kind) → kind_of (code - list_code) ≡ Is k → eqb code list_code ≡ false
+code-typed : (code : ℕ) (k : Kind) → kind_of (code - list_code) ≡ Some k → eqb code list_code ≡ false
 unfolding kind_of
-code-typed code k e = ne_eqb code list_code (λ q. let y : Unknown ≡ Is k = rw q at e in let z : ◌≡◌ {A = ℕ} 0 1 = cc in omega arith)
+code-typed code k e = ne_eqb code list_code (λ q. let y : None ≡ Some k = rw q at e in let z : ◌≡◌ {A = ℕ} 0 1 = cc in omega arith)
 
--- a refusal has a number of list reading, and its offset is not past the end
-pub record SaneRefusal (s : List ℕ) (r : Refusal) : Type 0 where
+-- a refusal has a number of list reading, up to `last`, and its offset is not past the end
+pub record SaneRefusal (last : ℕ) (s : List ℕ) (r : Refusal) : Type 0 where
   pub low : 20 < r.number
-  pub high : r.number < 32
+  pub high : r.number ≤ last
   pub inside : r.offset ≤ length s
 
-fault-number : (limit : ℕ) (s : List ℕ) (at n fault : ℕ) → item_fault limit s at n ≡ suc fault → (20 < suc fault) × (suc fault < 32)
-fault-number limit s at n fault = fault-is (λ (number : ℕ). (20 < number) × (number < 32)) limit s at n fault (omega arith) (omega arith)
+fault-number : (limit : ℕ) (s : List ℕ) (at n fault : ℕ) → item_fault limit s at n ≡ suc fault → (20 < suc fault) × (suc fault ≤ 28)
+fault-number limit s at n fault = fault-is (λ (number : ℕ). (20 < number) × (number ≤ 28)) limit s at n fault (omega arith) (omega arith)
 
 module _ (limit : ℕ) (s : List ℕ) where
-  sane : (n at : ℕ) → at ≤ length s → (20 < n) × (n < 32) → SaneRefusal s (refusal n at)
+  sane : (n at : ℕ) → at ≤ length s → (20 < n) × (n ≤ 28) → SaneRefusal 28 s (refusal n at)
   sane n at h b = record { low = b.0; high = b.1; inside = h }
 
-  sane-list : (r : Refusal) → SaneRefusal s r → SaneRefusal s (enclosed r)
+  sane-list : (r : Refusal) → SaneRefusal 28 s r → SaneRefusal 28 s (enclosed r)
   sane-list r h = record { low = h.low; high = h.high; inside = h.inside }
 
   -- from `at` to `next`, within the limit and the bytes, stands xs
@@ -100,11 +99,11 @@ module _ (limit : ℕ) (s : List ℕ) where
 
   -- what holds of an answer: G of what was read and the offset behind it; a refusal is sane
   abbrev Judged : {A : Type 0} → (A → ℕ → Type 0) → Parsed A → Type 0
-  Judged G = Says G (SaneRefusal s)
+  Judged G = Says G (SaneRefusal 28 s)
 
   item-read : {A : Type 0} (G : A → ℕ → Type 0) (at n : ℕ) (p : Parsed A) → at ≤ length s
       → (at + n ≤ limit → at + n ≤ length s → Judged G p) → Judged G (after_item (item_fault limit s at n) at p)
-  item-read G at n p h go = after-item limit s G (SaneRefusal s) at n p (λ fault e. sane (suc fault) at h (fault-number limit s at n fault e)) go
+  item-read G at n p h go = after-item limit s G (SaneRefusal 28 s) at n p (λ fault e. sane (suc fault) at h (fault-number limit s at n fault e)) go
 
   -- spans one behind the other
   join : (at mid next : ℕ) (xs ys : List ℕ) → Span at xs mid → Span mid ys next → Span at (xs ++ ys) next
@@ -258,10 +257,10 @@ module _ (limit : ℕ) (s : List ℕ) where
   abbrev ReadsLists : ℕ → (ℕ → ℕ → Parsed Elements) → Type 0
   ReadsLists d inner = (at code : ℕ) → is_list_code code ≡ true → at + 4 ≤ limit → at + 4 ≤ length s → Judged (IsList d at code) (inner at code)
 
-  coded-value : (d at : ℕ) (found : KindFound) → kind_of (word s at) ≡ found → at + 4 ≤ limit → at + 4 ≤ length s → at ≤ length s
+  coded-value : (d at : ℕ) (found : Option Kind) → kind_of (word s at) ≡ found → at + 4 ≤ limit → at + 4 ≤ length s → at ≤ length s
       → Judged (IsElement d at) (coded_value limit s at found)
-  coded-value d at Unknown e f i h = sane 26 at h (omega arith)
-  coded-value d at (Is k) e f i h =
+  coded-value d at None e f i h = sane 26 at h (omega arith)
+  coded-value d at (Some k) e f i h =
       next-step _ _ _ (value_at limit s (at + 4) k) _ (value_read k (at + 4) i) (λ v mid _ a.
       let c : word s at ≡ code_of (kind v) = code-of-kind (word s at) k e ∙ ap code_of (sym a.of-kind) in
       let b : Span at (number (code_of (kind v)) ++ value_bytes v) mid =
@@ -288,10 +287,10 @@ module _ (limit : ℕ) (s : List ℕ) where
       a.2 n next es r))
 
   elements-read : (d : ℕ) (inner : ℕ → ℕ → Parsed Elements) → ReadsLists d inner → (code : ℕ) → is_list_code code ≡ true
-      → (found : KindFound) → kind_of (code - list_code) ≡ found → (n at : ℕ) → at ≤ limit → at ≤ length s
+      → (found : Option Kind) → kind_of (code - list_code) ≡ found → (n at : ℕ) → at ≤ limit → at ≤ length s
       → Judged (AreElements d code at n) (elements_at inner limit s found n at)
-  elements-read d inner reads code c (Is k) e n at f i = typed-read d code k (code-typed code k e) n at f i
-  elements-read d inner reads code c Unknown e n at f i = rw (code-mixed code c e) (mixed-read d inner reads n at f i)
+  elements-read d inner reads code c (Some k) e n at f i = typed-read d code k (code-typed code k e) n at f i
+  elements-read d inner reads code c None e n at f i = rw (code-mixed code c e) (mixed-read d inner reads n at f i)
 
   is-list : (d at code : ℕ) (es : Elements) (next : ℕ) → Span (at + 4) (number (word s (at + 4))) (at + 8) → AreElements d code (at + 8) (word s (at + 4)) es next
       → code ≡ list_code_of es → IsList (suc d) at code es next
@@ -319,7 +318,7 @@ module _ (limit : ℕ) (s : List ℕ) where
   unfolding list_at
   list_read zero at code c f i = sane 27 at (omega arith) (omega arith)
   list_read (suc d) at code c f i =
-      in_list_lem _ (SaneRefusal s) _ (body_at (list_at d limit s) limit s at code) (body-read d (list_at d limit s) (list_read d) at code c i) (λ r. sane-list r)
+      in_list_lem _ (SaneRefusal 28 s) _ (body_at (list_at d limit s) limit s at code) (body-read d (list_at d limit s) (list_read d) at code c i) (λ r. sane-list r)
 
   -- the whole list at the front
   record IsWhole (es : Elements) (next : ℕ) : Type 0 where
@@ -348,7 +347,7 @@ sound limit s es n all h =
     ((w.legal all, omega (arith, w.span.fits)), len, e)
 
 -- a refusal of list reading is sane
-pub within : (limit : ℕ) (s : List ℕ) (r : Refusal) → parse limit s ≡ bad r → SaneRefusal s r
+pub within : (limit : ℕ) (s : List ℕ) (r : Refusal) → parse limit s ≡ bad r → SaneRefusal 28 s r
 within limit s r h = rw h at (parse-read limit s)
 
 -- what is read ends within the limit and the bytes

@@ -1,9 +1,7 @@
 -- The kinds of elements that are no lists, and their codes.
-use Rattle.std.specs.Prelude.{ℕ, ◌+◌, cond, eqb}
+use Rattle.std.specs.Prelude.{ℕ, ◌+◌, cond, eqb, Option, Some, None}
 use Rattle.list.specs.declared.Kind.{Kind}
 use Rattle.list.specs.declared.Kind.TheVariants.{Int, Float, Str, Blob, Vocab}
-use Rattle.list.specs.declared.KindFound.{KindFound}
-use Rattle.list.specs.declared.KindFound.TheVariants.{Is, Unknown}
 
 -- "Codes: NetInt 1, NetFloat 10 (8 bytes, low byte first), NetString 4, NetBlob 12, NetVocab 9"
 abbrev pub code_of : Kind → ℕ
@@ -14,14 +12,14 @@ code_of Blob = 12
 code_of Vocab = 9
 
 -- the kind of a code
-unfoldable pub kind_of : ℕ → KindFound
+unfoldable pub kind_of : ℕ → Option Kind
 kind_of code =
-    cond (eqb code (code_of Int)) (Is Int)
-    (cond (eqb code (code_of Float)) (Is Float)
-    (cond (eqb code (code_of Str)) (Is Str)
-    (cond (eqb code (code_of Blob)) (Is Blob)
-    (cond (eqb code (code_of Vocab)) (Is Vocab)
-    Unknown))))
+    cond (eqb code (code_of Int)) (Some Int)
+    (cond (eqb code (code_of Float)) (Some Float)
+    (cond (eqb code (code_of Str)) (Some Str)
+    (cond (eqb code (code_of Blob)) (Some Blob)
+    (cond (eqb code (code_of Vocab)) (Some Vocab)
+    None))))
 
 -- the bytes of a fixed element, or of the length before a string's or a blob's bytes
 abbrev pub size_of : Kind → ℕ

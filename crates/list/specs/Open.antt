@@ -1,10 +1,8 @@
 -- The lists that are open at an offset, counted from the front over the bytes before it, by codes, counts and lengths alone: a list is open
 -- from its count to the end of its last element. No tree is made and no fault is looked for.
-use Rattle.std.specs.Prelude.{ℕ, zero, suc, ◌+◌, ◌-◌, cond, List, [], ◌∷◌, eqb, ltb, length}
+use Rattle.std.specs.Prelude.{ℕ, zero, suc, ◌+◌, ◌-◌, cond, List, [], ◌∷◌, eqb, ltb, length, Option, Some, None}
 use Rattle.list.specs.declared.Kind.{Kind}
 use Rattle.list.specs.declared.Kind.TheVariants.{Int, Float, Str, Blob, Vocab}
-use Rattle.list.specs.declared.KindFound.{KindFound}
-use Rattle.list.specs.declared.KindFound.TheVariants.{Is, Unknown}
 use Rattle.list.specs.Kind.{kind_of, size_of, list_code}
 use Rattle.list.specs.Parse.{word}
 
@@ -16,10 +14,10 @@ value_size s at Float = size_of Float
 value_size s at Str = size_of Str + word s at
 value_size s at Blob = size_of Blob + word s at
 
--- an open list, by the kind that its code names (`Unknown` for 256): its count comes next, or so many of its elements are still to come
+-- an open list, by the kind that its code names (`None` for 256): its count comes next, or so many of its elements are still to come
 pub data Open : Type 0 where
-  uncounted : KindFound → Open
-  counted : KindFound → ℕ → Open
+  uncounted : Option Kind → Open
+  counted : Option Kind → ℕ → Open
 
 -- a list of which no element is to come is closed, and with it each list whose last element it was
 unfoldable pub still_open : List Open → List Open
@@ -37,15 +35,15 @@ abbrev pub position : ℕ → List Open → Position
 position next lists = record { next = next; lists = lists }
 
 -- an element that follows its code: a value, or a list, of which the code is passed
-abbrev pub past_code : List ℕ → ℕ → List Open → KindFound → Position
-past_code s at lists (Is k) = position (at + 4 + value_size s (at + 4) k) (still_open lists)
-past_code s at lists Unknown = position (at + 4) (uncounted (kind_of (word s at - list_code)) ∷ lists)
+abbrev pub past_code : List ℕ → ℕ → List Open → Option Kind → Position
+past_code s at lists (Some k) = position (at + 4 + value_size s (at + 4) k) (still_open lists)
+past_code s at lists None = position (at + 4) (uncounted (kind_of (word s at - list_code)) ∷ lists)
 
 -- one step: a count, an element without a code, or one that follows its code; behind the outermost list nothing is passed
 abbrev pub past_item : List ℕ → ℕ → List Open → Position
 past_item s at (uncounted elements ∷ lists) = position (at + 4) (still_open (counted elements (word s at) ∷ lists))
-past_item s at (counted (Is k) (suc left) ∷ lists) = position (at + value_size s at k) (still_open (counted (Is k) left ∷ lists))
-past_item s at (counted Unknown (suc left) ∷ lists) = past_code s at (counted Unknown left ∷ lists) (kind_of (word s at))
+past_item s at (counted (Some k) (suc left) ∷ lists) = position (at + value_size s at k) (still_open (counted (Some k) left ∷ lists))
+past_item s at (counted None (suc left) ∷ lists) = past_code s at (counted None left ∷ lists) (kind_of (word s at))
 past_item s at (counted elements zero ∷ lists) = position at (still_open lists)
 past_item s at [] = position at []
 

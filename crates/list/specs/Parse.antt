@@ -1,11 +1,9 @@
 -- Reading a list: the tree at the front of any bytes, or the first fault from the front with its offset and its depth.
 -- "Items are codes, counts, fixed elements, a length, a run of string or blob bytes."
-use Rattle.std.specs.Prelude.{ℕ, zero, suc, ◌+◌, ◌-◌, Bool, true, false, cond, ◌&&◌, ◌||◌, List, eqb, ltb, leb, length, take, drop}
+use Rattle.std.specs.Prelude.{ℕ, zero, suc, ◌+◌, ◌-◌, Bool, cond, ◌&&◌, ◌||◌, List, eqb, ltb, leb, length, take, drop, Option, Some, None, is_some}
 use Rattle.wire.specs.Number.{number_at}
 use Rattle.list.specs.declared.Kind.{Kind}
 use Rattle.list.specs.declared.Kind.TheVariants.{Int, Float, Str, Blob, Vocab}
-use Rattle.list.specs.declared.KindFound.{KindFound}
-use Rattle.list.specs.declared.KindFound.TheVariants.{Is, Unknown}
 use Rattle.list.specs.Limits.{depth_limit}
 use Rattle.list.specs.Refusal.{Refusal, refusal, enclosed}
 use Rattle.list.specs.Strings.{string_size, negative, bad_length, closed}
@@ -74,17 +72,13 @@ typed_at limit s kind (suc n) at =
     and_then (value_at limit s at kind) (λ v next. and_then (typed_at limit s kind n next) (λ es end. good (value v es) end))
 
 -- 256, or 256 and the code of a kind
-abbrev pub is_kind : KindFound → Bool
-is_kind (Is k) = true
-is_kind Unknown = false
-
 unfoldable pub is_list_code : ℕ → Bool
-is_list_code code = eqb code list_code || (leb list_code code && is_kind (kind_of (code - list_code)))
+is_list_code code = eqb code list_code || (leb list_code code && is_some (kind_of (code - list_code)))
 
 -- "element code unknown" is 26 at the code
-abbrev pub coded_value : ℕ → List ℕ → ℕ → KindFound → Parsed (Elements → Elements)
-coded_value limit s at (Is k) = and_then (value_at limit s (at + 4) k) (λ v next. good (value v) next)
-coded_value limit s at Unknown = bad (refusal 26 at)
+abbrev pub coded_value : ℕ → List ℕ → ℕ → Option Kind → Parsed (Elements → Elements)
+coded_value limit s at (Some k) = and_then (value_at limit s (at + 4) k) (λ v next. good (value v) next)
+coded_value limit s at None = bad (refusal 26 at)
 
 -- an element that follows its code; `inner` reads a list at an offset, of a given code
 unfoldable pub coded_at : (ℕ → ℕ → Parsed Elements) → ℕ → List ℕ → ℕ → Parsed (Elements → Elements)
@@ -101,9 +95,9 @@ mixed_at inner limit s (suc n) at =
     and_then (coded_at inner limit s at) (λ put next. and_then (mixed_at inner limit s n next) (λ es end. good (put es) end))
 
 -- n elements of a list of the code `code`
-abbrev pub elements_at : (ℕ → ℕ → Parsed Elements) → ℕ → List ℕ → KindFound → ℕ → ℕ → Parsed Elements
-elements_at inner limit s (Is k) n at = typed_at limit s k n at
-elements_at inner limit s Unknown n at = mixed_at inner limit s n at
+abbrev pub elements_at : (ℕ → ℕ → Parsed Elements) → ℕ → List ℕ → Option Kind → ℕ → ℕ → Parsed Elements
+elements_at inner limit s (Some k) n at = typed_at limit s k n at
+elements_at inner limit s None n at = mixed_at inner limit s n at
 
 -- "24 is judged after a list's last element .. with the place of its code": the code is not the one that the elements call for
 abbrev pub finished : ℕ → ℕ → Parsed Elements → Parsed Elements

@@ -1,5 +1,6 @@
 -- A refusal of list reading.
 use Rattle.std.specs.Prelude.{ℕ, suc, ◌+◌}
+use Rattle.errors.specs.Number.{number_of}
 use Rattle.list.specs.declared.Refusal as code
 
 -- "Each refusal returns its number; the list reader and the run add the place of the item at fault, counted from the front";
@@ -26,4 +27,4 @@ moved size r = refusal_at r.number (size + r.offset) r.depth
 
 -- what the code's answer says
 abbrev pub refusal_of : code.Refusal → Refusal
-refusal_of r = refusal_at r.error r.offset r.depth
+refusal_of r = refusal_at (number_of r.error) r.offset r.depth

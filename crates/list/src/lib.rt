@@ -6,6 +6,9 @@ ghost use Rattle.list.specs.Kind.{kind_of, size_of};
 ghost use Rattle.list.specs.Bytes.{common};
 ghost use Rattle.list.specs.RowBytes.{packed, unpacked, row_of};
 
+use errors::Error;
+use numbers::{bytes32, u32_at};
+
 // "A list has at most 4,096 bytes": also the room that a list buffer must have.
 pub const LIST_LIMIT: usize = 4096;
 
@@ -38,10 +41,10 @@ pub const DEPTH_LIMIT: usize = 8;
 // The code of a list whose elements carry their codes; a typed list has this and its kind's code.
 pub const LIST_CODE: u32 = 256;
 
-// Why list reading refuses: 01's number, the offset of the item at fault, and how many lists are open at the fault.
-#[derive(Drop)]
+// Why list reading refuses: the error, the offset of the item at fault, and how many lists are open at the fault.
+#[derive(Clone, Copy)]
 pub struct Refusal {
-    pub error: u8,
+    pub error: Error,
     pub offset: usize,
     pub depth: u8,
 }
@@ -60,7 +63,7 @@ pub fn number_at(rows: &[u8], i: usize) -> u32
 {
     if i < rows.len() / NUMBER {
         let at = NUMBER * i;
-        return numbers::u32_at(&rows[at..at + NUMBER], 0);
+        return u32_at(&rows[at..at + NUMBER], 0);
     }
     0
 }
@@ -93,32 +96,22 @@ pub fn row_at(rows: &[u8], i: usize) -> Row
         let second = first + NUMBER;
         let third = second + NUMBER;
         return Row {
-            code: numbers::u32_at(&rows[first..second], 0),
-            second: numbers::u32_at(&rows[second..third], 0),
-            third: numbers::u32_at(&rows[third..third + NUMBER], 0),
+            code: u32_at(&rows[first..second], 0),
+            second: u32_at(&rows[second..third], 0),
+            third: u32_at(&rows[third..third + NUMBER], 0),
         };
     }
     cut_row(rows, i)
 }
 
-// The bytes of a row, written out so that they are one array.
+// The bytes of a row.
 pub fn row_bytes(code: u32, second: u32, third: u32) -> [u8; ROW]
     ensures { result ≡ packed (code ∷ second ∷ third ∷ []) }
 {
-    [
-        (code % 256) as u8,
-        (code / 256 % 256) as u8,
-        (code / 256 / 256 % 256) as u8,
-        (code / 256 / 256 / 256 % 256) as u8,
-        (second % 256) as u8,
-        (second / 256 % 256) as u8,
-        (second / 256 / 256 % 256) as u8,
-        (second / 256 / 256 / 256 % 256) as u8,
-        (third % 256) as u8,
-        (third / 256 % 256) as u8,
-        (third / 256 / 256 % 256) as u8,
-        (third / 256 / 256 / 256 % 256) as u8,
-    ]
+    let [a, b, c, d] = bytes32(code);
+    let [e, f, g, h] = bytes32(second);
+    let [i, j, k, l] = bytes32(third);
+    [a, b, c, d, e, f, g, h, i, j, k, l]
 }
 
 // The code that the elements so far have in common: 0 before the first, LIST_CODE where two differ or one is a list.
@@ -135,6 +128,7 @@ pub fn common_code(seen: u32, code: u32) -> u32
 }
 
 // "Codes: NetInt 1, NetFloat 10 (8 bytes, low byte first), NetString 4, NetBlob 12, NetVocab 9."
+// The codes are constants of the type, as docs/DECISIONS.md says ("Forms that 01 names").
 #[derive(Clone, Copy)]
 pub enum Kind {
     Int,
@@ -142,12 +136,6 @@ pub enum Kind {
     Str,
     Blob,
     Vocab,
-}
-
-#[derive(Drop)]
-pub enum KindFound {
-    Is(Kind),
-    Unknown,
 }
 
 // "The code is 256 plus the kind": the codes of the lists of one kind, whose elements carry none.
@@ -172,26 +160,19 @@ impl Kind {
 
     pub const VOCAB: u32 = 9;
 
-    // The kind of a code.
-    pub fn of_code(code: u32) -> KindFound
+    // The kind of a code, if it is a kind's.
+    #[tactic(auto, unfolding(crate::specs::Kind::kind_of))]
+    pub fn of_code(code: u32) -> Option<Kind>
         ensures { result ≡ kind_of code }
     {
-        if code == Kind::INT {
-            return KindFound::Is(Kind::Int);
+        match code {
+            Kind::INT => Some(Kind::Int),
+            Kind::FLOAT => Some(Kind::Float),
+            Kind::STR => Some(Kind::Str),
+            Kind::BLOB => Some(Kind::Blob),
+            Kind::VOCAB => Some(Kind::Vocab),
+            _ => None,
         }
-        if code == Kind::FLOAT {
-            return KindFound::Is(Kind::Float);
-        }
-        if code == Kind::STR {
-            return KindFound::Is(Kind::Str);
-        }
-        if code == Kind::BLOB {
-            return KindFound::Is(Kind::Blob);
-        }
-        if code == Kind::VOCAB {
-            return KindFound::Is(Kind::Vocab);
-        }
-        KindFound::Unknown
     }
 
     // The bytes of a fixed element, or of the length that stands before a string's or a blob's bytes.

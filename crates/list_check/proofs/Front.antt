@@ -1,5 +1,5 @@
 -- Laws of the list at the front: its bytes may be cut at the limit, an empty list and ints that are all there are judged at once, and a typed list by its elements.
-use Prim.Native.Nat.{ℕ, ◌+◌, ◌-◌, ◌*◌, ◌^◌, ◌≤◌, ◌<◌, min}
+use Prim.Native.Nat.{ℕ, ◌+◌, ◌*◌, ◌^◌, ◌≤◌, ◌<◌, min}
 use mathlib.Core.Path.{◌≡◌, refl, sym, ap, ◌∙◌}
 use mathlib.Core.Bool.{Bool, true, false}
 use mathlib.Core.List.{List}
@@ -19,23 +19,28 @@ use Rattle.list.proofs.Codes.{mixed-is-code, typed-is-code}
 use Rattle.list.proofs.TypedRun.{typed-run}
 use Rattle.list.proofs.Cut.{cut}
 use Rattle.list.proofs.Shallow.{parse-shallow}
+use Rattle.list.proofs.Sound.{within}
 use Rattle.list_check.specs.Check.{accepted, refused, judged}
-use Rattle.list_check.specs.Steps.{told_by, depth_of, close_of}
-use Rattle.list_check.proofs.Told.{told-depth, there}
+use Rattle.list_check.specs.Steps.{told_by, depth_of, number_in, IsFault, close_of}
+use Rattle.list_check.proofs.Told.{told-depth, told-fault, there}
 use Rattle.list_check.proofs.Typed.{typed-some}
 use Rattle.list_check.proofs.Mixed.{is-typed, is-mixed, mixed-done}
 
--- the bytes from 0 to the last end
-pub part_same : (s : List ℕ) (end : ℕ) → end ≡ min list_limit (length s) → parse list_limit (take (end - 0) s) ≡ parse list_limit s
+-- the bytes up to the limit
+pub part_same : (s : List ℕ) (end : ℕ) → end ≡ min (length s) list_limit → parse list_limit (take end s) ≡ parse list_limit s
 part_same s end is = go (ltb list_limit (length s)) refl
   where
-    go : (b : Bool) → ltb list_limit (length s) ≡ b → parse list_limit (take (end - 0) s) ≡ parse list_limit s
-    go true e = let n : end - 0 ≡ list_limit = omega (arith, ltb-true list_limit (length s) e) in rw n (cut list_limit s)
-    go false e = ap (parse list_limit) (take_all (end - 0) s (omega (arith, ltb-false list_limit (length s) e)))
+    go : (b : Bool) → ltb list_limit (length s) ≡ b → parse list_limit (take end s) ≡ parse list_limit s
+    go true e = let n : end ≡ list_limit = omega (arith, ltb-true list_limit (length s) e) in rw n (cut list_limit s)
+    go false e = ap (parse list_limit) (take_all end s (omega (arith, ltb-false list_limit (length s) e)))
 
 -- at most as many lists are open at a refusal as may stand in one another
 pub parse-depth : (s : List ℕ) (bits : ℕ) → told_by bits ≡ judged (parse list_limit s) → depth_of bits ≤ depth_limit
 parse-depth s bits is = told-depth bits depth_limit (parse list_limit s) is (λ r e. parse-shallow list_limit s r e)
+
+-- and its number is one that judging finds
+pub parse-fault : (s : List ℕ) (bits : ℕ) → told_by bits ≡ judged (parse list_limit s) → list_limit < bits → IsFault (number_in bits)
+parse-fault s bits is = told-fault bits (parse list_limit s) is (λ r e. let w = within list_limit s r e in (w.low, w.high))
 
 module _ (s : List ℕ) (short : length s ≤ list_limit) (in₈ : 8 ≤ length s) (code count : ℕ) (w : code ≡ word s 0) (n : count ≡ word s 4) where
   pub front-list : is_list_code code ≡ true → judged (parse list_limit s) ≡ judged (list_at depth_limit list_limit s 0 code)

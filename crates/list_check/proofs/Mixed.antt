@@ -8,8 +8,8 @@ use native.Mathlib.Numerals.{sub-one}
 use lib.Dec.{eqb, ltb}
 use lib.ListN.{length}
 use borrow.Author.Tests.{le-ltb, ltb-false}
+use Rattle.std.specs.Prelude.{Some, None}
 use Rattle.list.specs.declared.Kind.{Kind}
-use Rattle.list.specs.declared.KindFound.TheVariants.{Is, Unknown}
 use Rattle.list.specs.Limits.{list_limit}
 use Rattle.list.specs.Kind.{code_of, kind_of, size_of, list_code, typed_code}
 use Rattle.list.specs.Refusal.{Refusal, refusal, refusal_at, enclosed}
@@ -122,10 +122,10 @@ module _ (inner : ℕ → ℕ → Parsed Elements) (s : List ℕ) (at code : ℕ
   coded = rw (there s at 4 cut in₄, w)
 
   -- a value that is not all there
-  pub coded-missing : (k : Kind) → kind_of code ≡ Is k → length s < at + 4 + size_of k → coded_at inner list_limit s at ≡ bad (missing_at (at + 4) (size_of k))
+  pub coded-missing : (k : Kind) → kind_of code ≡ Some k → length s < at + 4 + size_of k → coded_at inner list_limit s at ≡ bad (missing_at (at + 4) (size_of k))
   coded-missing k e h = coded ∙ rw (kind-not-list code k e, e, value-missing s k (at + 4) h)
 
-  pub coded-unknown : kind_of code ≡ Unknown → is_list_code code ≡ false → coded_at inner list_limit s at ≡ bad (refusal 26 at)
+  pub coded-unknown : kind_of code ≡ None → is_list_code code ≡ false → coded_at inner list_limit s at ≡ bad (refusal 26 at)
   coded-unknown e c = coded ∙ rw (c, e)
 
   -- a list that is refused

@@ -1,6 +1,6 @@
 -- Laws of the checker's number, and of the items that it judges.
-use Prim.Native.Nat.{ℕ, ◌+◌, ◌*◌, ◌/◌, ◌%◌, ◌≤◌, ◌<◌}
-use mathlib.Core.Path.{◌≡◌, refl, ap, ◌∙◌}
+use Prim.Native.Nat.{ℕ, ◌+◌, ◌*◌, ◌%◌, ◌≤◌, ◌<◌}
+use mathlib.Core.Path.{◌≡◌, refl, ap, subst, ◌∙◌}
 use mathlib.Core.Bool.{Bool, true, false, cond}
 use mathlib.Core.List.{List}
 use native.Mathlib.Omega.{arith}
@@ -12,7 +12,7 @@ use Rattle.list.specs.Refusal.{Refusal, refusal, refusal_at, enclosed}
 use Rattle.list.specs.Parse.{Parsed, good, bad, after_item, item_fault}
 use Rattle.list.proofs.Items.{fault-none}
 use Rattle.list_check.specs.Check.{Verdict, accepted, refused, judged}
-use Rattle.list_check.specs.Steps.{told_by, depth_of, enclosing, Refuses, missing_at}
+use Rattle.list_check.specs.Steps.{told_by, depth_of, number_in, IsFault, enclosing, Refuses, missing_at}
 
 -- an offset up to the limit is accepted
 pub told-end : (end : ℕ) → end ≤ list_limit → told_by end ≡ accepted end
@@ -40,7 +40,7 @@ unfolding told_by
 told-refused bits r e = go (ltb list_limit bits) refl e
   where
     go : (b : Bool) → ltb list_limit bits ≡ b
-        → cond b (refused (refusal_at (bits / (2 * list_limit) % 256) (bits % (2 * list_limit)) (depth_of bits))) (accepted bits) ≡ refused r
+        → cond b (refused (refusal_at (number_in bits) (bits % (2 * list_limit)) (depth_of bits))) (accepted bits) ≡ refused r
         → (list_limit < bits) × (depth_of bits ≡ r.depth)
     go true t q = (ltb-true list_limit bits t, cc)
     go false t q = absurd (let z : ◌≡◌ {A = ℕ} 0 1 = cc in omega arith)
@@ -59,9 +59,20 @@ told-depth bits d (bad r) e h = omega (arith, (told-refused bits r e).1, h r ref
 told-depth bits d (good a end) e h = go (ltb list_limit bits) refl e
   where
     go : (b : Bool) → ltb list_limit bits ≡ b
-        → cond b (refused (refusal_at (bits / (2 * list_limit) % 256) (bits % (2 * list_limit)) (depth_of bits))) (accepted bits) ≡ accepted end → depth_of bits ≤ d
+        → cond b (refused (refusal_at (number_in bits) (bits % (2 * list_limit)) (depth_of bits))) (accepted bits) ≡ accepted end → depth_of bits ≤ d
     go true t q = absurd (let z : ◌≡◌ {A = ℕ} 0 1 = cc in omega arith)
     go false t q = omega (arith, ltb-false list_limit bits t)
+
+-- and its refusal is one of theirs
+pub told-fault : {A : Type 0} (bits : ℕ) (p : Parsed A) → told_by bits ≡ judged p → ((r : Refusal) → p ≡ bad r → IsFault r.number) → list_limit < bits → IsFault (number_in bits)
+unfolding told_by
+told-fault bits (bad r) e h more =
+    let q = rw (lt-ltb list_limit bits more) at e in
+    let n : r.number ≡ number_in bits = cc in
+    subst IsFault n (h r refl)
+told-fault bits (good a end) e h more =
+    let q = rw (lt-ltb list_limit bits more) at e in
+    absurd (let z : ◌≡◌ {A = ℕ} 0 1 = cc in omega arith)
 
 -- a number that refuses is above the limit and counts no more lists either
 pub refuses-depth : {A : Type 0} (bits d : ℕ) (p : Parsed A) → Refuses bits p → ((r : Refusal) → p ≡ bad r → r.depth ≤ d) → (list_limit < bits) × (depth_of bits ≤ d)

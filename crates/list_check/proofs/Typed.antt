@@ -21,7 +21,7 @@ use Rattle.list.proofs.Codes.{kind-same, code-none, code-all, AllKind, typed-no-
 use Rattle.list.proofs.TypedRun.{Fixed}
 use Rattle.list.proofs.Shallow.{value-shallow}
 use Rattle.list_check.specs.Check.{Verdict, accepted, refused, judged}
-use Rattle.list_check.specs.Steps.{told_by, depth_of, enclosing, missing_at, run_kind, TypedAnswer}
+use Rattle.list_check.specs.Steps.{told_by, depth_of, enclosing, missing_at, TypedAnswer}
 use Rattle.list_check.proofs.Told.{then_go, stopped, went_on, told-depth, item-missing, there}
 use Rattle.list_check.proofs.KindRead.{typed-kind}
 
@@ -87,10 +87,6 @@ value-missing s Vocab at h = item-missing s at 4 _ h
 value-missing s Float at h = item-missing s at 8 _ h
 value-missing s Str at h = item-missing s at 4 _ h
 value-missing s Blob at h = item-missing s at 4 _ h
-
-pub length-missing : (s : List ℕ) (string : Bool) (at : ℕ) → length s < at + 4 → value_at list_limit s at (run_kind string) ≡ bad (missing_at at 4)
-length-missing s true at h = value-missing s Str at h
-length-missing s false at h = value-missing s Blob at h
 
 -- a fixed element that is there
 pub fixed-there : (s : List ℕ) (k : Kind) (at : ℕ) → Fixed k → length s ≤ list_limit → at + size_of k ≤ length s

@@ -71,8 +71,9 @@ module _ (s : List ℕ) where
       go (bad f) e q = let g : f ≡ r = cc in subst P g (front f e)
 
   -- a fault has a number of list reading, so never 20, or 29, and is not past the end
-  pub fault-sane : (r : Refusal) → whole s ≡ bad r → SaneRefusal s r
-  fault-sane = fault-all (SaneRefusal s) (within list_limit s)
+  pub fault-sane : (r : Refusal) → whole s ≡ bad r → SaneRefusal 29 s r
+  fault-sane = fault-all (SaneRefusal 29 s)
+      (λ r e. let w = within list_limit s r e in record { low = w.low; high = omega (arith, w.high); inside = w.inside })
       (λ es n e. record { low = omega arith; high = omega arith; inside = (reaches list_limit s es n e).1 })
 
   -- LAW: its depth is that of the lists open at the fault; where bytes are left after the list, none is

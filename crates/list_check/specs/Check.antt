@@ -1,11 +1,10 @@
 -- Judging a list: its reading with the tree forgotten.
-use Rattle.std.specs.Prelude.{ℕ, ◌≡◌, cond, List, eqb, length}
+use Rattle.std.specs.Prelude.{ℕ, ◌≡◌, cond, List, eqb, length, Result, Ok, Err}
 use Rattle.list.specs.Limits.{list_limit}
+use Rattle.list.specs.declared.Refusal as code
 use Rattle.list.specs.Refusal.{Refusal, refusal, refusal_of}
 use Rattle.list.specs.Tree.{Elements}
 use Rattle.list.specs.Parse.{Parsed, good, bad, and_then, parse}
-use Rattle.list_check.specs.declared.Checked as code
-use Rattle.list_check.specs.declared.Checked.TheVariants.{Ok, Refused}
 
 -- what judging finds: where the list ends, or the number of the refusal, "the place of the item at fault" and "the number of lists open at
 -- the fault"
@@ -14,9 +13,9 @@ pub data Verdict : Type 0 where
   refused : Refusal → Verdict
 
 -- the values for each case of the answer
-abbrev pub verdict_of : code.Checked → Verdict
+abbrev pub verdict_of : Result ℕ code.Refusal → Verdict
 verdict_of (Ok end) = accepted end
-verdict_of (Refused r) = refused (refusal_of r)
+verdict_of (Err r) = refused (refusal_of r)
 
 -- what was read is forgotten, the offset behind it stays
 abbrev pub judged : {A : Type 0} → Parsed A → Verdict
@@ -40,3 +39,8 @@ IsWhole s = (es : Elements) × (end : ℕ) × (whole s ≡ good es end)
 abbrev pub fault_of : {A : Type 0} → Parsed A → Refusal
 fault_of (good a end) = refusal 0 0
 fault_of (bad r) = r
+
+-- what the code's answer says of it
+abbrev pub found_of : {A : Type 0} → Result A code.Refusal → Refusal
+found_of (Ok a) = refusal 0 0
+found_of (Err r) = refusal_of r

@@ -1,8 +1,7 @@
 -- Internal: the steps of the checker, which the contracts of private functions cite.
-use Rattle.std.specs.Prelude.{ℕ, zero, suc, ◌+◌, ◌*◌, ◌/◌, ◌%◌, ◌≡◌, Bool, true, false, cond, List, [], ◌∷◌, eqb, ltb}
+use Rattle.std.specs.Prelude.{ℕ, zero, suc, ◌+◌, ◌*◌, ◌/◌, ◌%◌, ◌<◌, ◌≤◌, ◌≡◌, cond, List, [], ◌∷◌, eqb, ltb}
 use Rattle.list.specs.Limits.{list_limit}
 use Rattle.list.specs.declared.Kind.{Kind}
-use Rattle.list.specs.declared.Kind.TheVariants.{Str, Blob}
 use Rattle.list.specs.Kind.{code_of, list_code, typed_code}
 use Rattle.list.specs.Refusal.{Refusal, refusal, refusal_at, enclosed}
 use Rattle.list.specs.Bytes.{code_for}
@@ -13,11 +12,19 @@ use Rattle.list_check.specs.Check.{Verdict, accepted, refused, judged}
 abbrev pub depth_of : ℕ → ℕ
 depth_of bits = bits / (256 * (2 * list_limit))
 
+-- the number of a refusal in it
+abbrev pub number_in : ℕ → ℕ
+number_in bits = bits / (2 * list_limit) % 256
+
+-- the numbers of the refusals that judging finds
+abbrev pub IsFault : ℕ → Type 0
+IsFault number = (20 < number) × (number ≤ 28)
+
 -- what the checker's number says: an offset up to the limit, or a refusal
 unfoldable pub told_by : ℕ → Verdict
 told_by bits =
     cond (ltb list_limit bits)
-    (refused (refusal_at (bits / (2 * list_limit) % 256) (bits % (2 * list_limit)) (depth_of bits)))
+    (refused (refusal_at (number_in bits) (bits % (2 * list_limit)) (depth_of bits)))
     (accepted bits)
 
 -- a verdict on what stands in a list, seen from outside it
@@ -43,11 +50,6 @@ first_zero (suc b ∷ bs) = suc (first_zero bs)
 -- behind the last element: the list's code 256, at `at`, must be the one that the elements call for
 unfoldable pub close_of : ℕ → ℕ → ℕ → Verdict
 close_of at seen end = cond (eqb list_code (code_for seen)) (accepted end) (refused (refusal_at 24 at 1))
-
--- the kind of a run of bytes behind its length: is it a string
-abbrev pub run_kind : Bool → Kind
-run_kind true = Str
-run_kind false = Blob
 
 -- a number that tells of a typed list of n elements, by the code of its kind
 abbrev pub TypedAnswer : List ℕ → ℕ → ℕ → ℕ → ℕ → Type 0

@@ -1,32 +1,28 @@
 // Judges the list at the front of a slice: where it ends, or the first fault from the front.
 #![tactic(auto)]
 
-ghost use Rattle.std.specs.Prelude.{◌≡◌, true, ◌+◌, ◌≤◌, ◌<◌, ◌^◌, min, ltb, length};
+ghost use Rattle.std.specs.Prelude.{◌≡◌, true, ◌+◌, ◌≤◌, ◌<◌, ◌^◌, ltb, length};
+ghost use Rattle.errors.specs.Number.{number_of};
 ghost use Rattle.list.specs.Limits.{list_limit, depth_limit};
 ghost use Rattle.list.specs.Kind.{size_of};
 ghost use Rattle.list.specs.Refusal.{refusal, refusal_of};
 ghost use Rattle.list.specs.Strings.{closed};
 ghost use Rattle.list.specs.Parse.{in_list, word, value_at, typed_at, is_list_code, coded_at, list_at, parse};
 ghost use Rattle.list.proofs.TypedRun.{Fixed};
-ghost use Rattle.list_check.specs.Check.{refused, judged, verdict_of, checking_of, whole, fault_of};
-ghost use Rattle.list_check.specs.Steps.{told_by, depth_of, enclosing, missing_at, first_zero, close_of, Refuses, run_kind, TypedAnswer};
+ghost use Rattle.list_check.specs.Check.{refused, judged, verdict_of, checking_of, whole, fault_of, found_of};
+ghost use Rattle.list_check.specs.Steps.{told_by, depth_of, number_in, IsFault, enclosing, missing_at, first_zero, close_of, Refuses, TypedAnswer};
 
+use errors::Error;
 use list::{
-    BLOBS, DEPTH_LIMIT, INTS, Kind, KindFound, LIST_CODE, LIST_LIMIT, NEGATIVE, NUMBER, Refusal,
-    TERMINATOR, common_code,
+    BLOBS, DEPTH_LIMIT, INTS, Kind, LIST_CODE, LIST_LIMIT, NEGATIVE, NUMBER, Refusal, TERMINATOR,
+    common_code,
 };
 use numbers::u32_at;
 
-// The offset behind what was judged, or why it is refused.
-#[derive(Drop)]
-pub enum Checked {
-    Ok(usize),
-    Refused(Refusal),
-}
-
-// Inside, an answer is one number, which stays in a register (a struct would go through memory): an offset up to the limit,
-// or from FAULT on a refusal. `refuse` makes one that counts no list, `in_list` adds each list around it and `refusal_of` takes
-// it apart; between them it is handed on whole. So the depth costs nothing where a list is accepted.
+// Inside, an answer is one number, which stays in a register: an offset up to the limit, or from FAULT on a refusal. A Result goes
+// through memory: 340 nested lists take 35,437 instructions so, and 28,959 with the number. `refuse` makes one that counts no list,
+// `in_list` adds each list around it and `refusal_of` takes it apart; between them it is handed on whole. So the depth costs nothing
+// where a list is accepted.
 type Judged = usize;
 
 const FAULT: usize = 2 * LIST_LIMIT;
@@ -34,11 +30,11 @@ const FAULT: usize = 2 * LIST_LIMIT;
 // One list in it: behind the error, which is a byte.
 const LEVEL: usize = 256 * FAULT;
 
-fn refuse(error: u8, offset: usize) -> Judged
-    requires { (0 < error) × (offset ≤ list_limit) }
-    ensures { told_by result ≡ refused (refusal error offset) }
+fn refuse(error: Error, offset: usize) -> Judged
+    requires { (0 < number_of error) × (offset ≤ list_limit) }
+    ensures { told_by result ≡ refused (refusal (number_of error) offset) }
 {
-    FAULT * (error as usize) + offset
+    FAULT * (error.number() as usize) + offset
 }
 
 fn is_refused(j: Judged) -> bool
@@ -55,25 +51,46 @@ fn in_list(j: Judged) -> Judged
     LEVEL + j
 }
 
+// The error of a number that `refuse` took: those of 01 that judging finds. With TooLong for every other number, a lookup of a setting
+// that is refused at its first code takes 74 instructions, and 63 so.
+fn error_of(number: u8) -> Error
+    requires { IsFault number }
+    ensures { number_of result ≡ number }
+{
+    match number {
+        21 => Error::CutShort,
+        22 => Error::NoListCode,
+        23 => Error::NegativeCount,
+        24 => Error::WrongForm,
+        25 => Error::WrongString,
+        26 => Error::UnknownCode,
+        27 => Error::TooDeep,
+        28 => Error::TooLong,
+        _ => unreachable!(),
+    }
+}
+
+#[tactic(auto, unfolding(crate::specs::Steps::told_by))]
 fn refusal_of(j: Judged) -> Refusal
-    requires { (list_limit < j) × (depth_of j ≤ depth_limit) }
+    requires { (list_limit < j) × (depth_of j ≤ depth_limit) × IsFault (number_in j) }
     ensures { refused (refusal_of result) ≡ told_by j }
 {
     Refusal {
-        error: (j / FAULT % 256) as u8,
+        error: error_of((j / FAULT % 256) as u8),
         offset: j % FAULT,
         depth: (j / LEVEL) as u8,
     }
 }
 
-fn answer(j: Judged) -> Checked
-    requires { depth_of j ≤ depth_limit }
+#[tactic(auto, unfolding(crate::specs::Steps::told_by))]
+fn answer(j: Judged) -> Result<usize, Refusal>
+    requires { (depth_of j ≤ depth_limit) × (list_limit < j → IsFault (number_in j)) }
     ensures { verdict_of result ≡ told_by j }
 {
     if is_refused(j) {
-        return Checked::Refused(refusal_of(j));
+        return Err(refusal_of(j));
     }
-    Checked::Ok(j)
+    Ok(j)
 }
 
 // An item of n bytes that is not all there: 28 where it would end beyond the limit, else 21.
@@ -82,9 +99,9 @@ fn missing(at: usize, n: usize) -> Judged
     ensures { told_by result ≡ refused (missing_at at n) }
 {
     if LIST_LIMIT < at + n {
-        return refuse(28, at);
+        return refuse(Error::TooLong, at);
     }
-    refuse(21, at)
+    refuse(Error::CutShort, at)
 }
 
 // Is the last byte of a string's bytes the only zero.
@@ -112,17 +129,18 @@ fn first_zero(s: &[u8]) -> usize
     i
 }
 
-// A string whose length is there.
+// A string whose length is there. Here and below the bytes are cut at the limit, by a clause: as a ghost field of a struct around the
+// slice it is no plainer, since all but `check_front` and `check_any` keep a clause on `at`, which differs at each call.
 fn string_end(s: &[u8], at: usize) -> Judged
     requires { (at + 4 ≤ length s.now) × (length s.now ≤ list_limit) }
     ensures { told_by result ≡ judged (value_at list_limit s.now at Kind.Str) }
 {
     let length = u32_at(s, at);
     if length < TERMINATOR {
-        return refuse(25, at);
+        return refuse(Error::WrongString, at);
     }
     if NEGATIVE <= length {
-        return refuse(25, at);
+        return refuse(Error::WrongString, at);
     }
     let n = length as usize;
     let first = at + NUMBER;
@@ -132,7 +150,7 @@ fn string_end(s: &[u8], at: usize) -> Judged
     if is_closed(&s[first..first + n]) {
         return first + n;
     }
-    refuse(25, first)
+    refuse(Error::WrongString, first)
 }
 
 // A blob whose length is there.
@@ -142,7 +160,7 @@ fn blob_end(s: &[u8], at: usize) -> Judged
 {
     let length = u32_at(s, at);
     if NEGATIVE <= length {
-        return refuse(25, at);
+        return refuse(Error::WrongString, at);
     }
     let n = length as usize;
     let first = at + NUMBER;
@@ -152,34 +170,34 @@ fn blob_end(s: &[u8], at: usize) -> Judged
     first + n
 }
 
-// A string or a blob: its length, then its bytes.
-fn check_run(s: &[u8], at: usize, string: bool) -> Judged
+// An element without its code: a number, or a length and then the bytes that it counts.
+fn value_end(s: &[u8], at: usize, kind: Kind) -> Judged
     requires { (at ≤ list_limit) × (length s.now ≤ list_limit) }
-    ensures { told_by result ≡ judged (value_at list_limit s.now at (run_kind string)) }
+    ensures { told_by result ≡ judged (value_at list_limit s.now at kind) }
 {
-    if s.len() < at + NUMBER {
-        return missing(at, NUMBER);
+    let size = kind.size();
+    if s.len() < at + size {
+        return missing(at, size);
     }
-    if string {
-        return string_end(s, at);
+    match kind {
+        Kind::Str => string_end(s, at),
+        Kind::Blob => blob_end(s, at),
+        Kind::Int | Kind::Vocab | Kind::Float => at + size,
     }
-    blob_end(s, at)
 }
 
-// The strings or the blobs of a typed list. The compiler makes a loop for each.
-fn check_each(s: &[u8], at: usize, string: bool, n: usize) -> Judged
+// The elements of a typed list one by one. The compiler makes a loop for each kind that it is called with.
+fn check_each(s: &[u8], at: usize, kind: Kind, n: usize) -> Judged
     requires { (at ≤ list_limit) × (length s.now ≤ list_limit) }
-    ensures { told_by result ≡ judged (in_list (typed_at list_limit s.now (run_kind string) n at)) }
+    ensures { told_by result ≡ judged (in_list (typed_at list_limit s.now kind n at)) }
 {
     let mut pos = at;
-    let mut left = n;
-    while 0 < left {
-        let next = check_run(s, pos, string);
+    for done in 0..n {
+        let next = value_end(s, pos, kind);
         if is_refused(next) {
             return in_list(next);
         }
         pos = next;
-        left -= 1;
     }
     pos
 }
@@ -196,26 +214,28 @@ fn check_all(s: &[u8], at: usize, kind: Kind, n: usize) -> Judged
     at + size * n
 }
 
-// A typed list behind its count, by the code of its kind: 24 where it has no element. No other code comes here.
+// A typed list behind its count: 24 where it has no element. By its code, since by the kind it is no plainer: that takes an arm for
+// other codes too, which do not come.
 fn typed_list(s: &[u8], at: usize, code: u32, n: usize) -> Judged
     requires { (at + 8 ≤ length s.now) × (length s.now ≤ list_limit) × (n < 2 ^ 32) }
     ensures { TypedAnswer s.now at code n result }
 {
     if n == 0 {
-        return in_list(refuse(24, at));
+        return in_list(refuse(Error::WrongForm, at));
     }
     let first = at + 2 * NUMBER;
     match code {
         Kind::INT => check_all(s, first, Kind::Int, n),
         Kind::VOCAB => check_all(s, first, Kind::Vocab, n),
         Kind::FLOAT => check_all(s, first, Kind::Float, n),
-        Kind::STR => check_each(s, first, true, n),
-        Kind::BLOB => check_each(s, first, false, n),
-        _ => in_list(refuse(24, at)),
+        Kind::STR => check_each(s, first, Kind::Str, n),
+        Kind::BLOB => check_each(s, first, Kind::Blob, n),
+        _ => in_list(refuse(Error::WrongForm, at)),
     }
 }
 
 // 256, or 256 and the code of a kind.
+#[tactic(auto, unfolding(list::specs::Parse::is_list_code))]
 fn is_list_code(code: u32) -> bool
     ensures { result ≡ is_list_code code }
 {
@@ -225,10 +245,7 @@ fn is_list_code(code: u32) -> bool
     if code < LIST_CODE {
         return false;
     }
-    match Kind::of_code(code - LIST_CODE) {
-        KindFound::Is(_) => true,
-        KindFound::Unknown => false,
-    }
+    Kind::of_code(code - LIST_CODE).is_some()
 }
 
 // A value behind its code of which less than its first bytes is there.
@@ -250,13 +267,13 @@ fn tail_fault(s: &[u8], pos: usize, depth: usize) -> Judged
     let code = u32_at(s, pos);
     if is_list_code(code) {
         if depth == 0 {
-            return refuse(27, pos);
+            return refuse(Error::TooDeep, pos);
         }
         return in_list(missing(pos + NUMBER, NUMBER));
     }
     match Kind::of_code(code) {
-        KindFound::Is(kind) => missing_value(pos, kind),
-        KindFound::Unknown => refuse(26, pos),
+        Some(kind) => missing_value(pos, kind),
+        None => refuse(Error::UnknownCode, pos),
     }
 }
 
@@ -279,27 +296,27 @@ fn close(at: usize, seen: u32, end: usize) -> Judged
     if seen == LIST_CODE {
         return end;
     }
-    in_list(refuse(24, at))
+    in_list(refuse(Error::WrongForm, at))
 }
 
-// A list whose code and count stand at `at`, where `depth` lists may stand in one another, this one included.
+// A list whose code and count stand at `at`, where `depth` lists may stand in one another, this one included. It calls itself for a
+// list in it, as docs/DECISIONS.md says ("Forms that 01 names").
 fn check_list(s: &[u8], at: usize, code: u32, count: u32, depth: usize) -> Judged
     requires { (at + 8 ≤ length s.now) × (length s.now ≤ list_limit) × (is_list_code code ≡ true) × (count ≡ word s.now (at + 4)) × (depth ≤ depth_limit) }
     ensures { told_by result ≡ judged (list_at depth list_limit s.now at code) }
 {
     if depth == 0 {
-        return refuse(27, at);
+        return refuse(Error::TooDeep, at);
     }
     if NEGATIVE <= count {
-        return in_list(refuse(23, at + NUMBER));
+        return in_list(refuse(Error::NegativeCount, at + NUMBER));
     }
     if code != LIST_CODE {
         return typed_list(s, at, code - LIST_CODE, count as usize);
     }
-    let mut left = count;
     let mut pos = at + 2 * NUMBER;
     let mut seen: u32 = 0;
-    while 0 < left {
+    for done in 0..count {
         if s.len() < pos + 2 * NUMBER {
             return in_list(tail_fault(s, pos, depth - 1));
         }
@@ -339,7 +356,7 @@ fn check_list(s: &[u8], at: usize, code: u32, count: u32, depth: usize) -> Judge
             }
             _ => {
                 if !is_list_code(kind) {
-                    return in_list(refuse(26, pos));
+                    return in_list(refuse(Error::UnknownCode, pos));
                 }
                 // A copy of the reference, so that the loop keeps its own in registers.
                 let bytes = s;
@@ -351,7 +368,6 @@ fn check_list(s: &[u8], at: usize, code: u32, count: u32, depth: usize) -> Judge
                 seen = LIST_CODE;
             }
         }
-        left -= 1;
     }
     close(at, seen, pos)
 }
@@ -367,7 +383,7 @@ fn front_fault(s: &[u8]) -> Judged
     if is_list_code(u32_at(s, 0)) {
         return in_list(missing(NUMBER, NUMBER));
     }
-    refuse(22, 0)
+    refuse(Error::NoListCode, 0)
 }
 
 // The list at the front of bytes that are cut at the limit. The empty list, which a hub with no devices publishes, ints and
@@ -385,7 +401,7 @@ fn check_front(s: &[u8]) -> Judged
         BLOBS => {
             if 0 < count {
                 if count < NEGATIVE {
-                    return check_each(s, 2 * NUMBER, false, count as usize);
+                    return check_each(s, 2 * NUMBER, Kind::Blob, count as usize);
                 }
             }
         }
@@ -404,29 +420,18 @@ fn check_front(s: &[u8]) -> Judged
         }
         _ => {
             if !is_list_code(code) {
-                return refuse(22, 0);
+                return refuse(Error::NoListCode, 0);
             }
         }
     }
     check_list(s, 0, code, count, DEPTH_LIMIT)
 }
 
-// Where an item must end: at the limit, or where the bytes end.
-fn last_end(size: usize) -> usize
-    ensures { result ≡ min list_limit size }
-{
-    if LIST_LIMIT < size {
-        return LIST_LIMIT;
-    }
-    size
-}
-
 // The list at the front.
-pub fn check(s: &[u8]) -> Checked
+pub fn check(s: &[u8]) -> Result<usize, Refusal>
     ensures { verdict_of result ≡ checking_of s.now }
 {
-    let end = last_end(s.len());
-    answer(check_front(&s[0..end]))
+    answer(check_front(&s[..s.len().min(LIST_LIMIT)]))
 }
 
 // The list at the front. Of the codes that have a way of their own in `check_front` only that of the empty list has one here.
@@ -446,28 +451,20 @@ fn check_any(s: &[u8]) -> Judged
     if is_list_code(code) {
         return check_list(s, 0, code, count, DEPTH_LIMIT);
     }
-    refuse(22, 0)
+    refuse(Error::NoListCode, 0)
 }
 
-// The fault of an area that is to be one list and no more, its number 0 where there is none.
-pub fn fault(s: &[u8]) -> Refusal
-    ensures { refusal_of result ≡ fault_of (whole s.now) }
+// Whether an area is one list and no more.
+pub fn fault(s: &[u8]) -> Result<(), Refusal>
+    ensures { found_of result ≡ fault_of (whole s.now) }
 {
-    let end = last_end(s.len());
-    let j = check_any(&s[0..end]);
-    if is_refused(j) {
-        return refusal_of(j);
-    }
-    if j < s.len() {
-        return Refusal {
-            error: 29,
-            offset: j,
+    let end = answer(check_any(&s[..s.len().min(LIST_LIMIT)]))?;
+    if end < s.len() {
+        return Err(Refusal {
+            error: Error::BytesLeft,
+            offset: end,
             depth: 0,
-        };
+        });
     }
-    Refusal {
-        error: 0,
-        offset: 0,
-        depth: 0,
-    }
+    Ok(())
 }

@@ -1,5 +1,5 @@
 -- What reading a list promises, case by case.
-use Prim.Native.Nat.{ℕ, ◌-◌, ◌*◌, ◌≤◌, ◌<◌}
+use Prim.Native.Nat.{ℕ, ◌*◌, ◌≤◌, ◌<◌}
 use mathlib.Core.Path.{◌≡◌, refl, sym, ap, ◌∙◌}
 use mathlib.Core.Bool.{Bool, true, false, ◌&&◌}
 use mathlib.Core.List.{List, [], ◌++◌, append-nil}
@@ -20,10 +20,9 @@ use Rattle.list.specs.Parse.{Parsed, good, bad, parse}
 use Rattle.list.proofs.RowBytes.{room-bytes}
 use Rattle.list.proofs.Sound.{sound, reaches}
 use Rattle.list.proofs.Complete.{complete}
-use Rattle.list_check.specs.declared.Checked.{Checked}
-use Rattle.list_check.specs.declared.Checked.TheVariants.{Ok}
-use Rattle.list_check.specs.Check.{verdict_of, checking_of}
-use Rattle.list_check.proofs.Promised.{accepted-read}
+use Rattle.list_check.specs.Check.{checking_of}
+use Rattle.list_check.specs.Check as check
+use Rattle.list_check.proofs.Promised.{was_read}
 use Rattle.list_decode.specs.declared.fill.Amounts.{Amounts}
 use Rattle.list_decode.specs.Decode.{accepted, refused, outcome, roomy, answered, decoding_of}
 use Rattle.list_decode.specs.Pieces.{tree, Judged, Filled}
@@ -64,24 +63,23 @@ module _ (s rows store : List ℕ) where
   decoding-found es n e p = decoding-read e ∙ rw p
 
 -- what judging tells of what is read
-pub told-end : (s : List ℕ) (r : Checked) (end : ℕ) → verdict_of r ≡ checking_of s → r ≡ Ok end → parse list_limit s ≡ good (tree (parse list_limit s)) end
-told-end s r end h e = let w = accepted-read s r end h e in w.1 ∙ ap (λ (p : Parsed Elements). good (tree p) end) (sym w.1)
+pub told-end : (s : List ℕ) (end : ℕ) → check.accepted end ≡ checking_of s → parse list_limit s ≡ good (tree (parse list_limit s)) end
+told-end s end h = let w = was_read (parse list_limit s) end (sym h) in w.1 ∙ ap (λ (p : Parsed Elements). good (tree p) end) (sym w.1)
 
 -- a list is read from its own bytes as it is with others behind them
 module _ (s : List ℕ) (n : ℕ) (all : Bytes s) (judged : parse list_limit s ≡ good (tree (parse list_limit s)) n) where
   abbrev own : List ℕ
-  own = take (n - 0) s
+  own = take n s
 
   own_same : parse list_limit own ≡ parse list_limit s
   own_same =
       let es : Elements = tree (parse list_limit s) in
       let g = sound list_limit s es n all judged in
-      let z : n - 0 ≡ n = omega arith in
       let t : take n s ≡ list_bytes es ++ [] = ap (take n) g.2 ∙ take_at (list_bytes es) (drop n s) n (sym g.1) ∙ sym (append-nil (list_bytes es)) in
-      rw (z, t) (complete list_limit es [] (omega arith) g.0 ∙ ap (good es) (sym g.1) ∙ sym judged)
+      rw t (complete list_limit es [] (omega arith) g.0 ∙ ap (good es) (sym g.1) ∙ sym judged)
 
-  own-length : length own ≡ n
-  own-length = length-take-le (n - 0) s (omega (arith, (reaches list_limit s _ n judged).1)) ∙ (omega arith)
+  pub own-length : length own ≡ n
+  own-length = length-take-le n s (reaches list_limit s _ n judged).1
 
   module _ (rows store : List ℕ) (h : 4 * row_room ≤ length rows) (g : store_room ≤ length store) where
     pub own-judged : Judged own rows store

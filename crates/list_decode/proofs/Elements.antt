@@ -1,12 +1,11 @@
 -- Laws of one element that follows its code.
+use Rattle.std.specs.Prelude.{Option, Some, None}
 use Prim.Native.Nat.{ℕ, ◌+◌, ◌-◌, ◌≤◌}
 use mathlib.Core.Path.{◌≡◌, refl, sym, ◌∙◌}
 use mathlib.Core.List.{List, []}
 use native.Mathlib.Nat.{add-zero}
 use Rattle.list.specs.declared.Kind.{Kind}
 use Rattle.list.specs.declared.Kind.TheVariants.{Int, Float, Str, Blob, Vocab}
-use Rattle.list.specs.declared.KindFound.{KindFound}
-use Rattle.list.specs.declared.KindFound.TheVariants.{Is, Unknown}
 use Rattle.list.specs.Kind.{code_of, kind_of, list_code, typed_code}
 use Rattle.list.specs.Parse.{word}
 use Rattle.list.proofs.Codes.{kind-of-code, kind-of-list, kind-of-typed}
@@ -15,7 +14,7 @@ use Rattle.list_decode.specs.Pieces.{cursor, Piece, both, plain, value_piece, fo
 use Rattle.list_decode.proofs.Writing.{room-second, written_both}
 
 -- a row, and a run behind it
-module _ (s : List ℕ) (found : KindFound) (n : ℕ) (x : Cursor) (r : Piece) (bare : r.bytes ≡ []) {y : Cursor} {rows store rows' store' : List ℕ}
+module _ (s : List ℕ) (found : Option Kind) (n : ℕ) (x : Cursor) (r : Piece) (bare : r.bytes ≡ []) {y : Cursor} {rows store rows' store' : List ℕ}
     (w : Written x r rows store y rows' store') where
   same-run : found_run s found n y.used y.pos ≡ found_run s found n x.used r.next
   same-run = rw (w.used.behind, bare, add-zero x.used, w.pos)
@@ -36,11 +35,11 @@ pub written_at : (x : Cursor) (pos : ℕ) {p : Piece} {rows store : List ℕ} {y
 written_at x pos w = record { pos = w.pos; row = w.row; used = w.used }
 
 -- an element by its code
-pub list-no-kind : kind_of list_code ≡ Unknown
+pub list-no-kind : kind_of list_code ≡ None
 unfolding kind_of
 list-no-kind = refl
 
-pub typed-no-kind : (k : Kind) → kind_of (typed_code k) ≡ Unknown
+pub typed-no-kind : (k : Kind) → kind_of (typed_code k) ≡ None
 unfolding kind_of
 typed-no-kind Int = refl
 typed-no-kind Vocab = refl
@@ -57,11 +56,11 @@ module _ (s : List ℕ) (used at : ℕ) where
   unfolding element_piece
   element-mixed e = rw (e, list-no-kind, e, kind-of-list)
 
-  pub element-list : kind_of (word s at) ≡ Unknown → element_piece s used at ≡ list_piece s (kind_of (word s at - list_code)) (word s (at + 4)) used at
+  pub element-list : kind_of (word s at) ≡ None → element_piece s used at ≡ list_piece s (kind_of (word s at - list_code)) (word s (at + 4)) used at
   unfolding element_piece
   element-list e = rw e
 
-  pub element-typed : (k : Kind) → word s at ≡ typed_code k → element_piece s used at ≡ list_piece s (Is k) (word s (at + 4)) used at
+  pub element-typed : (k : Kind) → word s at ≡ typed_code k → element_piece s used at ≡ list_piece s (Some k) (word s (at + 4)) used at
   element-typed k e = element-list (rw e (typed-no-kind k)) ∙ rw (e, kind-of-typed k)
 
 -- the same where the code was read
@@ -75,7 +74,7 @@ module _ (s : List ℕ) (x : Cursor) (code : ℕ) (is : code ≡ word s x.pos) w
   pub mixed-is : code ≡ list_code → element_piece s x.used x.pos ≡ plain list_code (word s (x.pos + 4)) 0 (x.pos + 8)
   mixed-is e = element-mixed s x.used x.pos (sym is ∙ e)
 
-  module _ (second : ℕ) (next : second ≡ word s (x.pos + 4)) (no_kind : kind_of code ≡ Unknown) where
+  module _ (second : ℕ) (next : second ≡ word s (x.pos + 4)) (no_kind : kind_of code ≡ None) where
     pub typed-is : element_piece s x.used x.pos ≡ list_piece s (kind_of (code - list_code)) second x.used x.pos
     typed-is = element-list s x.used x.pos (rw (← is) no_kind) ∙ rw (← is, ← next)
 

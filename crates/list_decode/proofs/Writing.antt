@@ -21,7 +21,7 @@ pub length-read : (s : List ℕ) (at n : ℕ) → n ≡ number_at 4 (take (at + 
 length-read s at n e = e ∙ part-number 4 (at + 4 - at) s at (omega arith)
 
 -- a part of a buffer, from `at` to `e`, that xs took the place of
-part-sets : (area : List ℕ) (at e : ℕ) (xs : List ℕ) → e ≡ at + length xs → e ≤ length area → put_mid at (e - at) area xs ≡ sets area at xs
+pub part-sets : (area : List ℕ) (at e : ℕ) (xs : List ℕ) → e ≡ at + length xs → e ≤ length area → put_mid at (e - at) area xs ≡ sets area at xs
 part-sets area at e xs h f = rw h (put-part area at xs (omega arith) ∙ put-fits area at xs (omega arith))
 
 -- such a part after a call that puts xs into it

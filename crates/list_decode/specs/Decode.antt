@@ -1,5 +1,5 @@
 -- What reading a list answers, and what the lent rows and store hold afterwards.
-use Rattle.std.specs.Prelude.{ℕ, Bool, cond, ◌&&◌, List, leb, length}
+use Rattle.std.specs.Prelude.{ℕ, Bool, cond, ◌&&◌, List, leb, length, Result, Ok, Err}
 use Rattle.wire.specs.Area.{over}
 use Rattle.list.specs.Limits.{list_limit, row_room, store_room}
 use Rattle.list.specs.Tree.{Elements}
@@ -8,7 +8,7 @@ use Rattle.list.specs.RowBytes.{packed, unpacked}
 use Rattle.list.specs.Refusal.{Refusal, refusal, refusal_of}
 use Rattle.list.specs.Parse.{Parsed, good, bad, parse}
 use Rattle.list_decode.specs.declared.Decoded.{Decoded}
-use Rattle.list_decode.specs.declared.Decoded.TheVariants as code
+use Rattle.list.specs.declared.Refusal as code
 
 -- an answer, and what the rows and the store hold
 pub record Outcome (A : Type 0) : Type 0 where
@@ -40,6 +40,6 @@ decoding_of s rows store =
     cond (roomy rows store) (answered rows store (parse list_limit s)) (outcome (refused (refusal 20 0)) rows store)
 
 -- what the code's answer says
-abbrev pub reading_of : Decoded → Reading
-reading_of (code.List consumed rows stored) = accepted consumed rows stored
-reading_of (code.Refused r) = refused (refusal_of r)
+abbrev pub reading_of : Result Decoded code.Refusal → Reading
+reading_of (Ok d) = accepted d.consumed d.rows d.stored
+reading_of (Err r) = refused (refusal_of r)

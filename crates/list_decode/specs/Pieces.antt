@@ -1,10 +1,8 @@
 -- Internal: what the filling pass reads of a list that was judged, and what it writes. Public contracts do not cite this file.
-use Rattle.std.specs.Prelude.{ℕ, zero, suc, ◌+◌, ◌-◌, ◌*◌, ◌≤◌, ◌≡◌, List, [], ◌∷◌, ◌++◌, length, take, drop}
+use Rattle.std.specs.Prelude.{ℕ, zero, suc, ◌+◌, ◌-◌, ◌*◌, ◌≤◌, ◌≡◌, List, [], ◌∷◌, ◌++◌, length, take, drop, Option, Some, None}
 use Rattle.std.proofs.lemmas.List.Edits.{sets}
 use Rattle.list.specs.declared.Kind.{Kind}
 use Rattle.list.specs.declared.Kind.TheVariants.{Int, Float, Str, Blob, Vocab}
-use Rattle.list.specs.declared.KindFound.{KindFound}
-use Rattle.list.specs.declared.KindFound.TheVariants.{Is, Unknown}
 use Rattle.list.specs.Limits.{list_limit, row_room, store_room}
 use Rattle.list.specs.Kind.{code_of, kind_of, list_code}
 use Rattle.list.specs.Strings.{terminator}
@@ -59,19 +57,24 @@ unfoldable pub run : (ℕ → ℕ → Piece) → ℕ → ℕ → ℕ → Piece
 run each zero used at = piece [] [] at
 run each (suc n) used at = both (each used at) (run each n (used + length (each used at).bytes) (each used at).next)
 
+-- what each of them is read from is there
+abbrev pub EachHere : (ℕ → Type 0) → (ℕ → ℕ → Piece) → ℕ → ℕ → ℕ → Type 0
+EachHere here each zero used at = Unit {0}
+EachHere here each (suc n) used at = here at × EachHere here each n (used + length (each used at).bytes) (each used at).next
+
 -- n elements of a typed list; behind the row of another list no run follows
-abbrev pub found_run : List ℕ → KindFound → ℕ → ℕ → ℕ → Piece
-found_run s (Is k) n used at = run (value_piece s k) n used at
-found_run s Unknown n used at = piece [] [] at
+abbrev pub found_run : List ℕ → Option Kind → ℕ → ℕ → ℕ → Piece
+found_run s (Some k) n used at = run (value_piece s k) n used at
+found_run s None n used at = piece [] [] at
 
 -- the row of a list of n elements, and behind it those of a typed list
-abbrev pub list_piece : List ℕ → KindFound → ℕ → ℕ → ℕ → Piece
+abbrev pub list_piece : List ℕ → Option Kind → ℕ → ℕ → ℕ → Piece
 list_piece s found n used at = both (plain list_code n 0 (at + 8)) (found_run s found n used (at + 8))
 
 -- an element that follows its code
-abbrev pub coded_piece : List ℕ → KindFound → ℕ → ℕ → Piece
-coded_piece s (Is k) used at = value_piece s k used (at + 4)
-coded_piece s Unknown used at = list_piece s (kind_of (word s at - list_code)) (word s (at + 4)) used at
+abbrev pub coded_piece : List ℕ → Option Kind → ℕ → ℕ → Piece
+coded_piece s (Some k) used at = value_piece s k used (at + 4)
+coded_piece s None used at = list_piece s (kind_of (word s at - list_code)) (word s (at + 4)) used at
 
 unfoldable pub element_piece : List ℕ → ℕ → ℕ → Piece
 element_piece s used at = coded_piece s (kind_of (word s at)) used at
@@ -93,14 +96,14 @@ RunHere s Float n at = at + 8 * n ≤ length s
 RunHere s Str n at = AllHere s (length terminator) n at
 RunHere s Blob n at = AllHere s 0 n at
 
-abbrev pub FoundHere : List ℕ → KindFound → ℕ → ℕ → Type 0
-FoundHere s (Is k) n at = RunHere s k n at
-FoundHere s Unknown n at = ⊥
+abbrev pub FoundHere : List ℕ → Option Kind → ℕ → ℕ → Type 0
+FoundHere s (Some k) n at = RunHere s k n at
+FoundHere s None n at = ⊥
 
 -- what an element that follows its code is read from is there
-abbrev pub CodedHere : List ℕ → KindFound → ℕ → Type 0
-CodedHere s (Is k) at = RunHere s k 1 (at + 4)
-CodedHere s Unknown at =
+abbrev pub CodedHere : List ℕ → Option Kind → ℕ → Type 0
+CodedHere s (Some k) at = RunHere s k 1 (at + 4)
+CodedHere s None at =
     (list_code ≤ word s at) × ((word s at ≡ list_code → ⊥) → FoundHere s (kind_of (word s at - list_code)) (word s (at + 4)) (at + 8))
 
 -- a buffer has room for xs from an offset on; they were written there, up to another

@@ -25,11 +25,7 @@ fn put_element(s: &[u8], x: Cursor, rows: &mut [u8], store: &mut [u8]) -> Cursor
     let first = at + NUMBER;
     let third = first + NUMBER;
     let code = u32_at(&s[at..first], 0);
-    let behind = Cursor {
-        pos: first,
-        row: x.row,
-        used: x.used,
-    };
+    let behind = Cursor { pos: first, ..x };
     let second = u32_at(&s[first..third], 0);
     match code {
         Kind::INT => put_plain(rows, behind, Kind::INT, second, NUMBER),
@@ -43,7 +39,7 @@ fn put_element(s: &[u8], x: Cursor, rows: &mut [u8], store: &mut [u8]) -> Cursor
 }
 
 // How much was written: rows, and store bytes.
-#[derive(Drop)]
+#[derive(Clone, Copy)]
 pub struct Amounts {
     pub rows: u32,
     pub stored: usize,
@@ -55,18 +51,18 @@ pub fn fill(s: &[u8], rows: &mut [u8], store: &mut [u8]) -> Amounts
     requires { Judged s.now rows.old store.old }
     ensures { Filled s.now rows.old store.old result rows.new store.new }
 {
-    let mut pos: usize = 0;
-    let mut row: usize = 0;
-    let mut used: usize = 0;
-    while 2 * NUMBER <= s.len() - pos {
-        let x = put_element(s, Cursor { pos, row, used }, rows, store);
-        pos = x.pos;
-        row = x.row;
-        used = x.used;
+    let mut x = Cursor {
+        pos: 0,
+        row: 0,
+        used: 0,
+    };
+    // No `for`: how many bytes an element takes is seen as it is read.
+    while 2 * NUMBER <= s.len() - x.pos {
+        x = put_element(s, x, rows, store);
     }
-    let count = (row / ROW) as u32;
+    let count = (x.row / ROW) as u32;
     Amounts {
         rows: count,
-        stored: used,
+        stored: x.used,
     }
 }

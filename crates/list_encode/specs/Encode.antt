@@ -1,13 +1,14 @@
 -- What writing a list answers, and what the lent buffer holds afterwards.
-use Rattle.std.specs.Prelude.{ℕ, cond, List, ltb, length}
+use Rattle.std.specs.Prelude.{ℕ, cond, List, ltb, length, Ok, Err}
+use Rattle.std.specs.Prelude as prelude
 use Rattle.wire.specs.Area.{over}
+use Rattle.errors.specs.declared.Error.{Error}
+use Rattle.errors.specs.Number.{number_of}
 use Rattle.list.specs.Limits.{list_limit}
 use Rattle.list.specs.Tree.{Elements}
 use Rattle.list.specs.Bytes.{list_bytes}
 use Rattle.list_rows.specs.Judge.{Verdict, to_write}
 use Rattle.list_rows.specs.Judge as judge
-use Rattle.list_encode.specs.declared.Encoded.{Encoded}
-use Rattle.list_encode.specs.declared.Encoded.TheVariants.{Written, Refused}
 
 -- the number of bytes written, or "Each refusal returns its number"
 pub data Result : Type 0 where
@@ -33,6 +34,6 @@ encoding_of rows store buffer =
     cond (ltb (length buffer) list_limit) (outcome (refused 20) buffer) (emitted buffer (to_write rows store))
 
 -- what the code's answer says
-abbrev pub result_of : Encoded → Result
-result_of (Written count) = written count
-result_of (Refused number) = refused number
+abbrev pub result_of : prelude.Result ℕ Error → Result
+result_of (Ok count) = written count
+result_of (Err e) = refused (number_of e)

@@ -1,4 +1,7 @@
 // The bytes of a list, straight into the buffer. There is room for what each of these functions writes.
+// Buffer and place stay two parameters: the place moves once a row, by `row_size`, which judging takes too; a writer that moves with each
+// number would have to be shown to end there. The buffer is a slice with a list's room, and no array of that size: what writes numbers and
+// bytes takes slices, and each call would cut the array to one.
 ghost use Rattle.std.specs.Prelude.{◌+◌, ◌≤◌, ◌≡◌, ◌++◌, length};
 ghost use Rattle.std.proofs.lemmas.List.Edits.{sets};
 ghost use Rattle.list.specs.Kind.{kind_of};
@@ -10,7 +13,7 @@ ghost use Rattle.list_rows.specs.Described.{value_of};
 ghost use Rattle.list_rows.specs.Row.{kind_stored, stored};
 ghost use Rattle.list_rows.specs.Emit.{found_bytes, row_bytes, emit, kind_size, found_size, row_size, size_from, stored_from};
 
-use list::{Kind, KindFound, LIST_CODE, NUMBER, Row, TERMINATOR};
+use list::{Kind, LIST_CODE, NUMBER, Row, TERMINATOR};
 use list_rows::{code_ahead, left_after, row_count, row_size, stored_by};
 
 // A length, and bytes of the store behind it.
@@ -49,10 +52,8 @@ fn put_value(buffer: &mut [u8], at: usize, bytes: &[u8], row: Row)
     requires { (at + found_size row.third (kind_of row.code) ≤ list_limit) × (list_limit ≤ length buffer.old) × (length bytes.now ≡ stored row) }
     ensures { buffer.new ≡ sets buffer.old at (found_bytes bytes.now row.second row.third (kind_of row.code)) }
 {
-    let found = Kind::of_code(row.code);
-    match found {
-        KindFound::Is(kind) => put_kind(buffer, at, bytes, row, kind),
-        KindFound::Unknown => {}
+    if let Some(kind) = Kind::of_code(row.code) {
+        put_kind(buffer, at, bytes, row, kind);
     }
 }
 
@@ -85,18 +86,16 @@ pub fn emit_rows(rows: &[u8], store: &[u8], buffer: &mut [u8])
     ensures { buffer.new ≡ sets buffer.old 0 (emit store.now (unpacked rows.now) 0 0) }
 {
     let count = row_count(rows);
-    let mut i = 0;
     let mut left = 0;
     let mut used = 0;
     let mut end = 0;
-    while i < count {
+    for i in 0..count {
         let row = list::row_at(rows, i);
-        i += 1;
-        let code = code_ahead(rows, i, row);
+        let code = code_ahead(rows, i + 1, row);
         let size = stored_by(row);
         put_row(buffer, end, &store[used..used + size], left, code, row);
-        end = end + row_size(left, row);
+        end += row_size(left, row);
         left = left_after(left, code, row);
-        used = used + size;
+        used += size;
     }
 }

@@ -1,4 +1,5 @@
 -- Rows and store have the shape of a list exactly where they are the rows and the store of a tree.
+use Rattle.std.specs.Prelude.{Option, Some, None}
 use Prim.Native.Nat.{ℕ, zero, suc, ◌+◌, ◌-◌, ◌≤◌}
 use mathlib.Core.Path.{◌≡◌, refl, sym, ap, ◌∙◌}
 use mathlib.Core.Bool.{Bool, true, false, cond, ◌&&◌}
@@ -13,8 +14,6 @@ use borrow.Author.Tests.{eq-eqb, le-leb, eqb-true}
 use Rattle.wire.proofs.Chains.{and-true}
 use Rattle.list.specs.declared.Kind.{Kind}
 use Rattle.list.specs.declared.Kind.TheVariants.{Int, Float, Str, Blob, Vocab}
-use Rattle.list.specs.declared.KindFound.{KindFound}
-use Rattle.list.specs.declared.KindFound.TheVariants.{Is, Unknown}
 use Rattle.list.specs.declared.Row.{Row}
 use Rattle.list.specs.Kind.{code_of, kind_of, list_code}
 use Rattle.list.specs.Tree.{Value, Elements, int, vocab, float, str, blob, none, value, list, count}
@@ -224,9 +223,9 @@ module _ (s : List ℕ) where
         takes = rw e b.size;
       }
 
-  found-row : (used : ℕ) (r : Row) (found : KindFound) → kind_of r.code ≡ found → used ≤ length s → found_fits s used r.second r.third found ≡ true → ValueRow used r
-  found-row used r (Is k) e u h = value_row_lem used r k (code-of-kind r.code k e) u h
-  found-row used r Unknown e u h = clash h
+  found-row : (used : ℕ) (r : Row) (found : Option Kind) → kind_of r.code ≡ found → used ≤ length s → found_fits s used r.second r.third found ≡ true → ValueRow used r
+  found-row used r (Some k) e u h = value_row_lem used r k (code-of-kind r.code k e) u h
+  found-row used r None e u h = clash h
 
   row-cases : (used : ℕ) (r : Row) → used ≤ length s → row_fits s used r ≡ true → ListRow used r ⊎ ValueRow used r
   unfolding row_fits gained stored kind_of

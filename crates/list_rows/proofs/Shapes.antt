@@ -1,4 +1,5 @@
 -- Laws of the shape, judged row by row: what one turn of the loop over the rows does.
+use Rattle.std.specs.Prelude.{Option, Some, None}
 use Prim.Native.Nat.{ℕ, zero, suc, ◌+◌, ◌-◌, ◌*◌, ◌≤◌, ◌<◌}
 use mathlib.Core.Path.{◌≡◌, refl, sym, ap, ◌∙◌}
 use mathlib.Core.Bool.{Bool, true, false, cond, ◌&&◌}
@@ -8,9 +9,8 @@ use native.Mathlib.Numerals.{sub-one}
 use lib.Dec.{eqb}
 use lib.ListN.{length, length-drop, drop_of_length-le}
 use borrow.Author.Tests.{ne_eqb, eqb-true, leb-true}
+use Rattle.list.specs.declared.Kind.{Kind}
 use Rattle.list.specs.declared.Kind.TheVariants.{Int, Float, Str, Blob, Vocab}
-use Rattle.list.specs.declared.KindFound.{KindFound}
-use Rattle.list.specs.declared.KindFound.TheVariants.{Is, Unknown}
 use Rattle.list.specs.declared.Row.{Row}
 use Rattle.list.specs.Kind.{kind_of, list_code}
 use Rattle.list.specs.RowBytes.{row, row_at}
@@ -34,15 +34,15 @@ placed-parts s used offset size h =
 pub placed-inside : (s : List ℕ) (used offset size : ℕ) → used ≤ length s → placed s used offset size ≡ true → used + size ≤ length s
 placed-inside s used offset size u h = omega (arith, (placed-parts s used offset size h).2)
 
-found_inside : (s : List ℕ) (used second third : ℕ) (found : KindFound) → used ≤ length s → found_fits s used second third found ≡ true
+found_inside : (s : List ℕ) (used second third : ℕ) (found : Option Kind) → used ≤ length s → found_fits s used second third found ≡ true
     → used + found_stored third found ≤ length s
 unfolding kind_fits textual
-found_inside s used second third (Is Int) u h = omega arith
-found_inside s used second third (Is Float) u h = omega arith
-found_inside s used second third (Is Str) u h = placed-inside s used second third u (both (placed s used second third) _ h).0
-found_inside s used second third (Is Blob) u h = placed-inside s used second third u h
-found_inside s used second third (Is Vocab) u h = omega arith
-found_inside s used second third Unknown u h = clash h
+found_inside s used second third (Some Int) u h = omega arith
+found_inside s used second third (Some Float) u h = omega arith
+found_inside s used second third (Some Str) u h = placed-inside s used second third u (both (placed s used second third) _ h).0
+found_inside s used second third (Some Blob) u h = placed-inside s used second third u h
+found_inside s used second third (Some Vocab) u h = omega arith
+found_inside s used second third None u h = clash h
 
 -- the bytes of a row that fits are in the store
 pub fits-inside : (s : List ℕ) (used : ℕ) (r : Row) → used ≤ length s → row_fits s used r ≡ true → used + stored r ≤ length s

@@ -1,4 +1,5 @@
 -- Laws of the one pass over the rows: the codes looked up ahead, and the sizes.
+use Rattle.std.specs.Prelude.{Option, Some, None}
 use Prim.Native.Nat.{ℕ, zero, suc, ◌+◌, ◌-◌, ◌*◌, ◌≤◌, ◌<◌}
 use mathlib.Core.Path.{◌≡◌, refl, sym, ap, ◌∙◌}
 use mathlib.Core.Bool.{Bool, true, false, cond}
@@ -11,8 +12,6 @@ use lib.ListN.{length, get_or, length-append}
 use borrow.Author.Tests.{lt-ltb, le-ltb, ltb-true}
 use Rattle.list.specs.declared.Kind.{Kind}
 use Rattle.list.specs.declared.Kind.TheVariants.{Int, Float, Str, Blob, Vocab}
-use Rattle.list.specs.declared.KindFound.{KindFound}
-use Rattle.list.specs.declared.KindFound.TheVariants.{Is, Unknown}
 use Rattle.list.specs.declared.Row.{Row}
 use Rattle.list.specs.Kind.{kind_of, list_code}
 use Rattle.list.specs.Strings.{terminator}
@@ -24,11 +23,6 @@ use Rattle.list_rows.specs.Emit.{found_bytes, common_in, code_ahead, row_bytes, 
 use Rattle.list_rows.proofs.Rows.{front-row, few-left, part_length}
 
 -- THE CODES AHEAD
-pub common-none : (seen n : ℕ) (rows : List ℕ) → n ≤ 0 → common_in seen n rows ≡ seen
-unfolding common_in
-common-none seen zero rows h = refl
-common-none seen (suc n) rows h = absurd (omega arith)
-
 common-few : (seen n : ℕ) (rows : List ℕ) → length rows < 3 → common_in seen n rows ≡ seen
 unfolding common_in
 common-few seen zero rows h = refl
@@ -37,6 +31,11 @@ common-few seen (suc n) (a ∷ []) h = refl
 common-few seen (suc n) (a ∷ b ∷ []) h = refl
 common-few seen (suc n) (a ∷ b ∷ c ∷ rows) h = absurd (omega arith)
 
+common-end : (seen n : ℕ) (rows : List ℕ) (i : ℕ) → ((n ≡ 0 → ⊥) → rows_in rows ≤ i) → common_in seen n (rows_from rows i) ≡ seen
+unfolding common_in
+common-end seen zero rows i h = refl
+common-end seen (suc n) rows i h = common-few seen (suc n) (rows_from rows i) (few-left rows i (h (λ e. omega arith)))
+
 common-one : (seen n a b c : ℕ) (rows : List ℕ) → 0 < n → common_in seen n (a ∷ b ∷ c ∷ rows) ≡ common_in (common seen a) (n - 1) rows
 unfolding common_in
 common-one seen zero a b c rows h = absurd (omega arith)
@@ -44,8 +43,9 @@ common-one seen (suc n) a b c rows h = rw sub-one
 
 -- L is the answer for all elements, which before a turn is that for `left` elements from row i on
 module _ (L : ℕ) (rows : List ℕ) (i left seen : ℕ) (inv : L ≡ common_in seen left (rows_from rows i)) where
-  pub common-short : rows_in rows ≤ i → seen ≡ L
-  common-short h = sym (inv ∙ common-few seen left (rows_from rows i) (few-left rows i h))
+  -- no element is left, or no row
+  pub common-done : ((left ≡ 0 → ⊥) → rows_in rows ≤ i) → seen ≡ L
+  common-done h = sym (inv ∙ common-end seen left rows i h)
 
   pub common-turn : (x : ℕ) → 0 < left → i < rows_in rows → x ≡ common seen (get_or rows (3 * i) 0) → L ≡ common_in x (left - 1) (rows_from rows (i + 1))
   common-turn x more long e = inv ∙ rw (front-row rows i long _ refl, e) (common-one seen left _ _ _ (rows_from rows (i + 1)) more)
@@ -109,10 +109,10 @@ value-size bs second third Str h = omega (arith, length-append bs terminator)
 value-size bs second third Blob h = omega arith
 value-size bs second third Vocab h = refl
 
-found-size : (bs : List ℕ) (second third : ℕ) (found : KindFound) → length bs ≡ found_stored third found
+found-size : (bs : List ℕ) (second third : ℕ) (found : Option Kind) → length bs ≡ found_stored third found
     → length (found_bytes bs second third found) ≡ found_size third found
-found-size bs second third (Is k) h = value-size bs second third k h
-found-size bs second third Unknown h = refl
+found-size bs second third (Some k) h = value-size bs second third k h
+found-size bs second third None h = refl
 
 pub row-size : (bs : List ℕ) (left code : ℕ) (r : Row) → length bs ≡ stored r → length (row_bytes bs left code r) ≡ row_size left r
 unfolding row_bytes row_size stored

@@ -1,12 +1,9 @@
 -- The list that rows and store describe, where they describe exactly one.
-use Rattle.std.specs.Prelude.{ℕ, zero, suc, ◌*◌, ◌%◌, ◌^◌, ◌<◌, Bool, true, not, cond, ◌&&◌, List, [], ◌∷◌, ◌++◌, eqb, length, take, drop}
-use Rattle.std.proofs.Math.Option.{Option, some}
+use Rattle.std.specs.Prelude.{ℕ, zero, suc, ◌*◌, ◌%◌, ◌^◌, ◌<◌, Bool, true, not, cond, ◌&&◌, List, [], ◌∷◌, ◌++◌, eqb, length, take, drop, Option, Some, None}
 use Rattle.std.proofs.Math.Option as option
 use Rattle.wire.specs.Equal.{same}
 use Rattle.list.specs.declared.Kind.{Kind}
 use Rattle.list.specs.declared.Kind.TheVariants.{Int, Float, Str, Blob, Vocab}
-use Rattle.list.specs.declared.KindFound.{KindFound}
-use Rattle.list.specs.declared.KindFound.TheVariants.{Is, Unknown}
 use Rattle.list.specs.Kind.{kind_of, list_code}
 use Rattle.list.specs.Limits.{row_numbers}
 use Rattle.list.specs.Strings.{terminator, negative, closed}
@@ -46,9 +43,9 @@ abbrev pub list_of : ℕ → Elements → Elements
 list_of n es = list (first_of n es) (rest_of n es)
 
 -- an element in front of others; a row of an unknown code describes nothing
-abbrev pub value_before : List ℕ → ℕ → ℕ → Elements → KindFound → Elements
-value_before store second third es (Is k) = value (value_of (part store second third) second third k) es
-value_before store second third es Unknown = none
+abbrev pub value_before : List ℕ → ℕ → ℕ → Elements → Option Kind → Elements
+value_before store second third es (Some k) = value (value_of (part store second third) second third k) es
+value_before store second third es None = none
 
 -- the elements that rows describe, before any test
 unfoldable pub elements_of : List ℕ → List ℕ → Elements
@@ -87,9 +84,9 @@ unfoldable pub describes : List ℕ → List ℕ → Elements → Bool
 describes rows store es = same rows (list_rows es) && (same store (list_store es) && (natural (count es) && allowed es))
 
 -- 30: "rows and store do not describe exactly one list"
-unfoldable pub described : List ℕ → List ℕ → Option Elements
+unfoldable pub described : List ℕ → List ℕ → option.Option Elements
 described rows store =
-    cond (describes rows store (outermost (elements_of store rows))) (some (outermost (elements_of store rows))) option.none
+    cond (describes rows store (outermost (elements_of store rows))) (option.some (outermost (elements_of store rows))) option.none
 
 -- "There a row is 12 bytes": the bytes are those of whole rows
 abbrev pub row_width : ℕ
@@ -99,7 +96,7 @@ abbrev pub whole_rows : List ℕ → Bool
 whole_rows rows = eqb (length rows % row_width) 0
 
 -- the same of rows that are bytes; a part of a row describes nothing
-unfoldable pub list_in : List ℕ → List ℕ → Option Elements
+unfoldable pub list_in : List ℕ → List ℕ → option.Option Elements
 list_in rows store = cond (whole_rows rows) (described (unpacked rows) store) option.none
 
 -- what rows and store can describe, at any depth and of any size: legal values, no count or length below 0

@@ -1,9 +1,7 @@
 -- Internal: the bytes of a list from its rows, in one pass; a list's code is found by looking ahead at as many rows as it counts.
-use Rattle.std.specs.Prelude.{ℕ, zero, suc, ◌+◌, ◌-◌, cond, List, [], ◌∷◌, ◌++◌, eqb, ltb}
+use Rattle.std.specs.Prelude.{ℕ, zero, suc, ◌+◌, ◌-◌, cond, List, [], ◌∷◌, ◌++◌, eqb, ltb, Option, Some, None}
 use Rattle.list.specs.declared.Kind.{Kind}
 use Rattle.list.specs.declared.Kind.TheVariants.{Int, Float, Str, Blob, Vocab}
-use Rattle.list.specs.declared.KindFound.{KindFound}
-use Rattle.list.specs.declared.KindFound.TheVariants.{Is, Unknown}
 use Rattle.list.specs.declared.Row.{Row}
 use Rattle.list.specs.Kind.{kind_of, list_code, size_of}
 use Rattle.list.specs.Strings.{string_length}
@@ -13,9 +11,9 @@ use Rattle.list_rows.specs.Described.{part, value_of}
 use Rattle.list_rows.specs.Row.{stored}
 
 -- the bytes of an element, without its code, where `bs` are its store bytes
-abbrev pub found_bytes : List ℕ → ℕ → ℕ → KindFound → List ℕ
-found_bytes bs second third (Is k) = value_bytes (value_of bs second third k)
-found_bytes bs second third Unknown = []
+abbrev pub found_bytes : List ℕ → ℕ → ℕ → Option Kind → List ℕ
+found_bytes bs second third (Some k) = value_bytes (value_of bs second third k)
+found_bytes bs second third None = []
 
 -- what the codes of the next n rows have in common, after `seen`
 unfoldable pub common_in : ℕ → ℕ → List ℕ → ℕ
@@ -62,9 +60,9 @@ kind_tail third Blob = third
 abbrev pub kind_size : ℕ → Kind → ℕ
 kind_size third k = size_of k + kind_tail third k
 
-abbrev pub found_size : ℕ → KindFound → ℕ
-found_size third (Is k) = kind_size third k
-found_size third Unknown = 0
+abbrev pub found_size : ℕ → Option Kind → ℕ
+found_size third (Some k) = kind_size third k
+found_size third None = 0
 
 unfoldable pub row_size : ℕ → Row → ℕ
 row_size left r = cond (eqb r.code list_code) 8 (cond (eqb left 0) 4 0 + found_size r.third (kind_of r.code))

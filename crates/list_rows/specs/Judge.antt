@@ -1,12 +1,12 @@
 -- What rows and store are judged to be: a list that may be written, or the number of the refusal.
-use Rattle.std.specs.Prelude.{ℕ, suc, max, cond, List, ltb, length}
+use Rattle.std.specs.Prelude.{ℕ, suc, max, cond, List, ltb, length, Result, Ok, Err}
 use Rattle.std.proofs.Math.Option.{Option, some}
 use Rattle.std.proofs.Math.Option as option
+use Rattle.errors.specs.declared.Error.{Error}
+use Rattle.errors.specs.Number.{number_of}
 use Rattle.list.specs.Limits.{list_limit, depth_limit}
 use Rattle.list.specs.Tree.{Elements, none, value, list}
 use Rattle.list.specs.Bytes.{list_bytes}
-use Rattle.list_rows.specs.declared.Judged.{Judged}
-use Rattle.list_rows.specs.declared.Judged.TheVariants as code
 use Rattle.list_rows.specs.Described.{list_in}
 
 -- how many lists stand in one another among the elements
@@ -50,6 +50,6 @@ abbrev pub judging_of : List ℕ → List ℕ → Verdict ℕ
 judging_of rows store = sized (to_write rows store)
 
 -- what the code's answer says
-abbrev pub verdict_of : Judged → Verdict ℕ
-verdict_of (code.List size) = accepted size
-verdict_of (code.Refused number) = refused number
+abbrev pub verdict_of : Result ℕ Error → Verdict ℕ
+verdict_of (Ok size) = accepted size
+verdict_of (Err e) = refused (number_of e)

@@ -1,9 +1,7 @@
 -- Internal: rows one at a time, as the code reads them.
-use Rattle.std.specs.Prelude.{ℕ, ◌*◌, ◌/◌, cond, List, eqb, length, drop}
+use Rattle.std.specs.Prelude.{ℕ, ◌*◌, ◌/◌, cond, List, eqb, length, drop, Option, Some, None}
 use Rattle.list.specs.declared.Kind.{Kind}
 use Rattle.list.specs.declared.Kind.TheVariants.{Int, Float, Str, Blob, Vocab}
-use Rattle.list.specs.declared.KindFound.{KindFound}
-use Rattle.list.specs.declared.KindFound.TheVariants.{Is, Unknown}
 use Rattle.list.specs.declared.Row.{Row}
 use Rattle.list.specs.Kind.{kind_of, list_code}
 use Rattle.list.specs.Limits.{row_numbers}
@@ -27,9 +25,9 @@ kind_stored third Float = 0
 kind_stored third Str = third
 kind_stored third Blob = third
 
-abbrev pub found_stored : ℕ → KindFound → ℕ
-found_stored third (Is k) = kind_stored third k
-found_stored third Unknown = 0
+abbrev pub found_stored : ℕ → Option Kind → ℕ
+found_stored third (Some k) = kind_stored third k
+found_stored third None = 0
 
 unfoldable pub stored : Row → ℕ
 stored r = found_stored r.third (kind_of r.code)

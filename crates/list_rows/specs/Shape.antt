@@ -1,9 +1,7 @@
 -- Internal: whether rows and store describe a list, judged row by row with a count of the elements still wanted.
-use Rattle.std.specs.Prelude.{ℕ, zero, suc, ◌+◌, ◌-◌, Bool, true, false, cond, ◌&&◌, List, [], ◌∷◌, ◌++◌, eqb, leb, length, get_or}
+use Rattle.std.specs.Prelude.{ℕ, zero, suc, ◌+◌, ◌-◌, Bool, true, false, cond, ◌&&◌, List, [], ◌∷◌, ◌++◌, eqb, leb, length, get_or, Option, Some, None}
 use Rattle.list.specs.declared.Kind.{Kind}
 use Rattle.list.specs.declared.Kind.TheVariants.{Int, Float, Str, Blob, Vocab}
-use Rattle.list.specs.declared.KindFound.{KindFound}
-use Rattle.list.specs.declared.KindFound.TheVariants.{Is, Unknown}
 use Rattle.list.specs.declared.Row.{Row}
 use Rattle.list.specs.Kind.{kind_of, list_code}
 use Rattle.list.specs.Strings.{terminator, closed}
@@ -26,9 +24,9 @@ kind_fits store used second third Float = true
 kind_fits store used second third Str = textual store used second third
 kind_fits store used second third Blob = placed store used second third
 
-abbrev pub found_fits : List ℕ → ℕ → ℕ → ℕ → KindFound → Bool
-found_fits store used second third (Is k) = kind_fits store used second third k
-found_fits store used second third Unknown = false
+abbrev pub found_fits : List ℕ → ℕ → ℕ → ℕ → Option Kind → Bool
+found_fits store used second third (Some k) = kind_fits store used second third k
+found_fits store used second third None = false
 
 unfoldable pub row_fits : List ℕ → ℕ → Row → Bool
 row_fits store used r =

@@ -6,7 +6,8 @@ ghost use Rattle.list_rows.specs.Nesting.{too_deep};
 use super::row::{row_count, wide};
 use list::{DEPTH_LIMIT, LIST_CODE};
 
-// `left` elements are still to come of the innermost open list, and `outer` says the same of the `level` lists around it, the outermost first.
+// `left` elements are still to come of the innermost open list, and `outer` says the same of the `level` lists around it, the outermost first,
+// in fixed memory, as the product has no heap.
 pub fn is_too_deep(rows: &[u8]) -> bool
     ensures { result ≡ too_deep (unpacked rows.now) }
 {
@@ -16,6 +17,7 @@ pub fn is_too_deep(rows: &[u8]) -> bool
     let front = list::row_at(rows, 0);
     let mut left = wide(front.second);
     let mut i = 1;
+    // No `for`: where a list ends, a turn takes no row.
     while i < count {
         if left == 0 {
             if level == 0 {

@@ -12,23 +12,21 @@ use list::{LIST_CODE, Row};
 fn common_in(rows: &[u8], first: usize, n: usize) -> u32
     ensures { result ≡ common_in 0 n (rows_from (unpacked rows.now) first) }
 {
-    let count = row_count(rows);
     let mut seen = 0;
     let mut left = n;
-    let mut i = first;
-    while 0 < left {
-        if count <= i {
+    for i in first..row_count(rows) {
+        if left == 0 {
             return seen;
         }
         let row = list::row_at(rows, i);
         seen = list::common_code(seen, row.code);
-        i += 1;
         left -= 1;
     }
     seen
 }
 
 // The code of a list whose elements have `seen` in common.
+#[tactic(auto, unfolding(crate::specs::Emit::typed_or))]
 fn typed_or(seen: u32) -> u32
     ensures { result ≡ typed_or seen }
 {
@@ -42,6 +40,7 @@ fn typed_or(seen: u32) -> u32
 }
 
 // The code of the element of a row, with the rows from row `next` on behind it.
+#[tactic(auto, unfolding(crate::specs::Emit::code_ahead))]
 pub fn code_ahead(rows: &[u8], next: usize, row: Row) -> u32
     ensures { result ≡ code_ahead (rows_from (unpacked rows.now) next) row }
 {
@@ -52,6 +51,7 @@ pub fn code_ahead(rows: &[u8], next: usize, row: Row) -> u32
 }
 
 // How many elements come without a code behind a row of the code `code`.
+#[tactic(auto, unfolding(crate::specs::Emit::left_after))]
 pub fn left_after(left: usize, code: u32, row: Row) -> usize
     ensures { result ≡ left_after left code row }
 {
@@ -61,8 +61,5 @@ pub fn left_after(left: usize, code: u32, row: Row) -> usize
         }
         return wide(row.second);
     }
-    if left == 0 {
-        return 0;
-    }
-    left - 1
+    left.saturating_sub(1)
 }

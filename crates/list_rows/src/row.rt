@@ -4,7 +4,7 @@ ghost use Rattle.list.specs.RowBytes.{unpacked};
 ghost use Rattle.list_rows.specs.Described.{row_width};
 ghost use Rattle.list_rows.specs.Row.{rows_in, gained, kind_stored, stored};
 
-use list::{Kind, KindFound, LIST_CODE, ROW, Row};
+use list::{Kind, LIST_CODE, ROW, Row};
 
 // How many whole rows there are.
 pub fn row_count(rows: &[u8]) -> usize
@@ -13,7 +13,7 @@ pub fn row_count(rows: &[u8]) -> usize
     rows.len() / ROW
 }
 
-// A 32-bit number as an index.
+// A 32-bit number as an index. By `as`: there is no `From<u32>` for `usize`.
 pub fn wide(x: u32) -> usize
     ensures { (result ≡ x) × (result < 2 ^ 32) }
 {
@@ -21,6 +21,7 @@ pub fn wide(x: u32) -> usize
 }
 
 // The elements that a row adds to those still wanted.
+#[tactic(auto, unfolding(crate::specs::Row::gained))]
 pub fn gained_by(row: Row) -> usize
     ensures { (result ≡ gained row) × (result < 2 ^ 32) }
 {
@@ -31,16 +32,17 @@ pub fn gained_by(row: Row) -> usize
 }
 
 // The bytes of the store that a row uses.
+#[tactic(auto, unfolding(crate::specs::Row::stored))]
 pub fn stored_by(row: Row) -> usize
     ensures { (result ≡ stored row) × (result < 2 ^ 32) }
 {
-    let found = Kind::of_code(row.code);
-    match found {
-        KindFound::Is(kind) => kind_stored(kind, row.third),
-        KindFound::Unknown => 0,
+    match Kind::of_code(row.code) {
+        Some(kind) => kind_stored(kind, row.third),
+        None => 0,
     }
 }
 
+// A kind goes with the row's third number, here and in size.rt: the row itself has a code, of which each function would ask for the kind anew.
 fn kind_stored(kind: Kind, third: u32) -> usize
     ensures { (result ≡ kind_stored third kind) × (result < 2 ^ 32) }
 {

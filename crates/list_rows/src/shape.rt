@@ -5,9 +5,11 @@ ghost use Rattle.list_rows.specs.Described.{whole_rows};
 ghost use Rattle.list_rows.specs.Shape.{placed, textual, kind_fits, row_fits, shape, list_shape};
 
 use super::row::{gained_by, row_count, stored_by, wide};
-use list::{Kind, KindFound, LIST_CODE, NEGATIVE, ROW, Row};
+use list::{Kind, LIST_CODE, NEGATIVE, ROW, Row};
 
-// Are the bytes that a row names the next ones of the store?
+// Are the bytes that a row names the next ones of the store? The store goes with the count of its used bytes here and below: a row's offset
+// is compared with that count, so what is left of the store would not do alone. So each of the four asks that it is at most the store's
+// length.
 fn is_placed(store: &[u8], used: usize, offset: u32, size: u32) -> bool
     requires { used ≤ length store.now }
     ensures { result ≡ placed store.now used offset size }
@@ -26,6 +28,7 @@ fn is_text(store: &[u8], used: usize, offset: u32, size: u32) -> bool
     false
 }
 
+#[tactic(auto, unfolding(crate::specs::Shape::kind_fits))]
 fn kind_fits(store: &[u8], used: usize, second: u32, third: u32, kind: Kind) -> bool
     requires { used ≤ length store.now }
     ensures { result ≡ kind_fits store.now used second third kind }
@@ -47,10 +50,9 @@ fn row_fits(store: &[u8], used: usize, row: Row) -> bool
     if row.code == LIST_CODE {
         return (row.second < NEGATIVE) & (row.third == 0);
     }
-    let found = Kind::of_code(row.code);
-    match found {
-        KindFound::Is(kind) => kind_fits(store, used, row.second, row.third, kind),
-        KindFound::Unknown => false,
+    match Kind::of_code(row.code) {
+        Some(kind) => kind_fits(store, used, row.second, row.third, kind),
+        None => false,
     }
 }
 
@@ -60,10 +62,9 @@ fn is_element(rows: &[u8], store: &[u8]) -> bool
     ensures { result ≡ shape store.now (unpacked rows.now) 1 0 }
 {
     let count = row_count(rows);
-    let mut i = 0;
     let mut want = 1;
     let mut used = 0;
-    while i < count {
+    for i in 0..count {
         if want == 0 {
             return false;
         }
@@ -71,17 +72,16 @@ fn is_element(rows: &[u8], store: &[u8]) -> bool
             return false;
         }
         let row = list::row_at(rows, i);
-        if row_fits(store, used, row) {
-            want = want - 1 + gained_by(row);
-            used = used + stored_by(row);
-            i += 1;
-        } else {
+        if !row_fits(store, used, row) {
             return false;
         }
+        want = want - 1 + gained_by(row);
+        used += stored_by(row);
     }
     (want == 0) & (used == store.len())
 }
 
+#[tactic(auto, unfolding(crate::specs::Shape::list_shape))]
 pub fn is_list(rows: &[u8], store: &[u8]) -> bool
     ensures { result ≡ (whole_rows rows.now && list_shape (unpacked rows.now) store.now) }
 {

@@ -7,7 +7,7 @@ ghost use Rattle.list_rows.specs.Emit.{kind_tail, kind_size, found_size, row_siz
 
 use super::look::{code_ahead, left_after};
 use super::row::{row_count, wide};
-use list::{Kind, KindFound, LIST_CODE, LIST_LIMIT, NUMBER, Row, TERMINATOR};
+use list::{Kind, LIST_CODE, LIST_LIMIT, NUMBER, Row, TERMINATOR};
 
 // Behind a string's length stand its bytes and its terminator, behind a blob's its bytes.
 fn kind_tail(third: u32, kind: Kind) -> usize
@@ -22,6 +22,7 @@ fn kind_tail(third: u32, kind: Kind) -> usize
     }
 }
 
+#[tactic(auto, using(crate::proofs::Rows::size_low))]
 fn kind_size(third: u32, kind: Kind) -> usize
     ensures { (result ≡ kind_size third kind) × (result ≤ 2 ^ 33) }
 {
@@ -31,14 +32,14 @@ fn kind_size(third: u32, kind: Kind) -> usize
 fn value_size(row: Row) -> usize
     ensures { (result ≡ found_size row.third (kind_of row.code)) × (result ≤ 2 ^ 33) }
 {
-    let found = Kind::of_code(row.code);
-    match found {
-        KindFound::Is(kind) => kind_size(row.third, kind),
-        KindFound::Unknown => 0,
+    match Kind::of_code(row.code) {
+        Some(kind) => kind_size(row.third, kind),
+        None => 0,
     }
 }
 
 // The bytes of a row where `left` elements come without a code.
+#[tactic(auto, unfolding(crate::specs::Emit::row_size))]
 pub fn row_size(left: usize, row: Row) -> usize
     ensures { (result ≡ row_size left row) × (result ≤ 2 ^ 34) }
 {
@@ -56,17 +57,15 @@ pub fn measure(rows: &[u8]) -> usize
     ensures { result ≡ capped list_limit (size_from (unpacked rows.now) 0) }
 {
     let count = row_count(rows);
-    let mut i = 0;
     let mut left = 0;
     let mut total = 0;
-    while i < count {
+    for i in 0..count {
         let row = list::row_at(rows, i);
-        total = total + row_size(left, row);
+        total += row_size(left, row);
         if LIST_LIMIT < total {
             return LIST_LIMIT + 1;
         }
-        i += 1;
-        left = left_after(left, code_ahead(rows, i, row), row);
+        left = left_after(left, code_ahead(rows, i + 1, row), row);
     }
     total
 }

@@ -7,13 +7,12 @@ use native.Mathlib.Omega.{arith}
 use lib.Dec.{ltb}
 use lib.ListN.{length, get_or}
 use borrow.Author.Tests.{lt-ltb, le-ltb}
+use Rattle.std.specs.Prelude.{Option, Some, None}
 use Rattle.wire.specs.Number.{Bytes}
 use Rattle.wire.proofs.Numbers.{number-4}
 use Rattle.wire.proofs.ByteLists.{byte_small}
 use Rattle.list.specs.declared.Kind.{Kind}
 use Rattle.list.specs.declared.Kind.TheVariants.{Int, Float, Str, Blob, Vocab}
-use Rattle.list.specs.declared.KindFound.{KindFound}
-use Rattle.list.specs.declared.KindFound.TheVariants.{Is, Unknown}
 use Rattle.list.specs.Kind.{code_of, kind_of, list_code, typed_code}
 use Rattle.list.specs.Parse.{word}
 use Rattle.list.specs.Open.{value_size}
@@ -21,7 +20,7 @@ use Rattle.list.proofs.Codes.{kind-of-code, code-low, kind-of-typed, not-kind}
 use Rattle.list_skip.specs.Skip.{run_end, typed_end, stride, list_stride, stride_of, stride_at, skip_from}
 
 -- a code that is no typed list's
-no-typed : (code : ℕ) → ((k : Kind) → code ≡ typed_code k → ⊥) → kind_of (code - list_code) ≡ Unknown
+no-typed : (code : ℕ) → ((k : Kind) → code ≡ typed_code k → ⊥) → kind_of (code - list_code) ≡ None
 no-typed code other = not-kind (code - list_code) (λ k e. other k (omega (arith, (code-low k).0)))
 
 module _ (s : List ℕ) where
@@ -79,7 +78,7 @@ module _ (s : List ℕ) where
     unfolding stride_at
     stride-value k e = rw (ap kind_of e ∙ kind-of-code k)
 
-    pub stride-list : kind_of (word s at) ≡ Unknown → stride_at s at ≡ list_stride s (kind_of (word s at - list_code)) (word s (at + 4)) (at + 8)
+    pub stride-list : kind_of (word s at) ≡ None → stride_at s at ≡ list_stride s (kind_of (word s at - list_code)) (word s (at + 4)) (at + 8)
     unfolding stride_at
     stride-list e = rw e
 
@@ -88,13 +87,13 @@ module _ (s : List ℕ) where
     unfolding stride_at
     stride-forward = go (kind_of (word s at))
       where
-        in_list : (f : KindFound) → at + 8 ≤ (list_stride s f (word s (at + 4)) (at + 8)).next
-        in_list (Is k) = typed-forward k (word s (at + 4)) (at + 8)
-        in_list Unknown = omega arith
+        in_list : (f : Option Kind) → at + 8 ≤ (list_stride s f (word s (at + 4)) (at + 8)).next
+        in_list (Some k) = typed-forward k (word s (at + 4)) (at + 8)
+        in_list None = omega arith
 
-        go : (f : KindFound) → at + 8 ≤ (stride_of s at f).next
-        go (Is k) = omega (arith, value-forward k (at + 4))
-        go Unknown = in_list (kind_of (word s at - list_code))
+        go : (f : Option Kind) → at + 8 ≤ (stride_of s at f).next
+        go (Some k) = omega (arith, value-forward k (at + 4))
+        go None = in_list (kind_of (word s at - list_code))
 
     pub opens_small : Bytes s → (stride_at s at).opens < 2 ^ 32
     unfolding stride_at
@@ -105,13 +104,13 @@ module _ (s : List ℕ) where
             let byte : (i : ℕ) → get_or s i 0 < 256 = λ i. byte_small s i all in
             omega (arith, number-4 s (at + 4), byte (at + 4), byte (at + 4 + 1), byte (at + 4 + 2), byte (at + 4 + 3))
 
-        in_list : (f : KindFound) → (list_stride s f (word s (at + 4)) (at + 8)).opens < 2 ^ 32
-        in_list (Is k) = omega arith
-        in_list Unknown = small
+        in_list : (f : Option Kind) → (list_stride s f (word s (at + 4)) (at + 8)).opens < 2 ^ 32
+        in_list (Some k) = omega arith
+        in_list None = small
 
-        go : (f : KindFound) → (stride_of s at f).opens < 2 ^ 32
-        go (Is k) = omega arith
-        go Unknown = in_list (kind_of (word s at - list_code))
+        go : (f : Option Kind) → (stride_of s at f).opens < 2 ^ 32
+        go (Some k) = omega arith
+        go None = in_list (kind_of (word s at - list_code))
 
   -- elements, one stride after the other
   pub skip_step : (steps n at : ℕ) → at < length s → skip_from steps s (n + (stride_at s at).opens) (stride_at s at).next ≡ skip_from (suc steps) s (suc n) at

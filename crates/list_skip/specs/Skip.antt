@@ -1,9 +1,7 @@
 -- Where elements end that follow their codes, in a list that was judged: by codes, counts and lengths alone.
-use Rattle.std.specs.Prelude.{ℕ, zero, suc, ◌+◌, ◌-◌, ◌*◌, cond, List, ltb, length, take}
+use Rattle.std.specs.Prelude.{ℕ, zero, suc, ◌+◌, ◌-◌, ◌*◌, cond, List, ltb, length, take, Option, Some, None}
 use Rattle.list.specs.declared.Kind.{Kind}
 use Rattle.list.specs.declared.Kind.TheVariants.{Int, Float, Str, Blob, Vocab}
-use Rattle.list.specs.declared.KindFound.{KindFound}
-use Rattle.list.specs.declared.KindFound.TheVariants.{Is, Unknown}
 use Rattle.list.specs.Limits.{list_limit}
 use Rattle.list.specs.Kind.{kind_of, size_of, list_code}
 use Rattle.list.specs.Parse.{word}
@@ -28,14 +26,14 @@ abbrev pub stride : ℕ → ℕ → Stride
 stride next opens = record { next = next; opens = opens }
 
 -- a list of n elements, behind its code and its count: those of a typed list carry no codes and are passed with it
-abbrev pub list_stride : List ℕ → KindFound → ℕ → ℕ → Stride
-list_stride s (Is k) n first = stride (typed_end s k n first) 0
-list_stride s Unknown n first = stride first n
+abbrev pub list_stride : List ℕ → Option Kind → ℕ → ℕ → Stride
+list_stride s (Some k) n first = stride (typed_end s k n first) 0
+list_stride s None n first = stride first n
 
 -- by the kind that the code names; "each element follows its code"
-abbrev pub stride_of : List ℕ → ℕ → KindFound → Stride
-stride_of s at (Is k) = stride (at + 4 + value_size s (at + 4) k) 0
-stride_of s at Unknown = list_stride s (kind_of (word s at - list_code)) (word s (at + 4)) (at + 8)
+abbrev pub stride_of : List ℕ → ℕ → Option Kind → Stride
+stride_of s at (Some k) = stride (at + 4 + value_size s (at + 4) k) 0
+stride_of s at None = list_stride s (kind_of (word s at - list_code)) (word s (at + 4)) (at + 8)
 
 unfoldable pub stride_at : List ℕ → ℕ → Stride
 stride_at s at = stride_of s at (kind_of (word s at))

@@ -1,7 +1,7 @@
 // Stepping over elements of a list that was judged: where the next one begins. Nothing is judged again and nothing is written.
 #![tactic(auto)]
 
-ghost use Rattle.std.specs.Prelude.{◌≡◌, ◌-◌, ◌≤◌, ◌<◌, ◌^◌, length};
+ghost use Rattle.std.specs.Prelude.{◌≡◌, ◌+◌, ◌-◌, ◌*◌, ◌≤◌, ◌<◌, ◌^◌, length};
 ghost use Rattle.list.specs.Limits.{list_limit};
 ghost use Rattle.list.specs.Kind.{kind_of, list_code};
 ghost use Rattle.list_skip.specs.Skip.{run_end, stride, list_stride, stride_at, skip_from, elements_end};
@@ -10,7 +10,7 @@ use list::{BLOBS, FLOATS, INTS, Kind, LIST_LIMIT, NUMBER, STRINGS, VOCABS};
 use numbers::u32_at;
 
 // What stands at the code of an element: where the next code stands, and how many elements of a list begin there.
-#[derive(Drop)]
+#[derive(Clone, Copy)]
 struct Stride {
     next: usize,
     opens: usize,
@@ -18,17 +18,14 @@ struct Stride {
 
 // The end of n strings or blobs, each a length and what that counts. Past the end of the bytes there is none.
 fn run_end(s: &[u8], at: usize, n: u32) -> usize
-    requires { (length s.now ≤ list_limit) × (at < 2 ^ 33) }
     ensures { result ≡ run_end s.now n at }
 {
     let mut pos = at;
-    let mut left = n;
-    while 0 < left {
+    for done in 0..n {
         if s.len() <= pos {
             return pos;
         }
         pos = pos + NUMBER + u32_at(s, pos) as usize;
-        left -= 1;
     }
     pos
 }
@@ -42,7 +39,7 @@ fn up_to(next: usize) -> Stride
 
 // A typed list is stepped over at once, of any other list its code and its count. Its elements stand from `first` on.
 fn list_stride(s: &[u8], code: u32, n: u32, first: usize) -> Stride
-    requires { (length s.now ≤ list_limit) × (first < 2 ^ 33) }
+    requires { first + 8 * n < 2 ^ 64 }
     ensures { result ≡ list_stride s.now (kind_of (code - list_code)) n first }
 {
     match code {
@@ -60,7 +57,7 @@ fn list_stride(s: &[u8], code: u32, n: u32, first: usize) -> Stride
 
 // A value is stepped over at once.
 fn stride_at(s: &[u8], at: usize) -> Stride
-    requires { (length s.now ≤ list_limit) × (at < length s.now) }
+    requires { at < length s.now }
     ensures { result ≡ stride_at s.now at }
 {
     let code = u32_at(s, at);
@@ -76,7 +73,9 @@ fn stride_at(s: &[u8], at: usize) -> Stride
     }
 }
 
-// Elements of inner lists are counted with those still to come, so that nothing calls itself.
+// Elements of inner lists are counted with those still to come, so that nothing calls itself; no range counts what is left. It is a
+// call of its own: the loop of the settings' search takes more instructions with it compiled in.
+#[inline(never)]
 fn skip_in(s: &[u8], at: usize, n: u32) -> usize
     requires { length s.now ≤ list_limit }
     ensures { result ≡ skip_from list_limit s.now n at }
@@ -98,8 +97,5 @@ fn skip_in(s: &[u8], at: usize, n: u32) -> usize
 pub fn skip(s: &[u8], at: usize, n: u32) -> usize
     ensures { result ≡ elements_end s.now n at }
 {
-    if LIST_LIMIT < s.len() {
-        return skip_in(&s[0..LIST_LIMIT], at, n);
-    }
-    skip_in(s, at, n)
+    skip_in(&s[..s.len().min(LIST_LIMIT)], at, n)
 }

@@ -1,4 +1,5 @@
--- Lengths: the payload lengths of the type table, a single one as a range and the greatest of all, and that of a message; and that 0 is no type.
+-- Lengths: the payload lengths of the type table, a single one as a range and the greatest of all, and that of a message; and that a number of no type,
+-- such as 0, allows none.
 use Prim.Native.Nat.{ℕ, zero, suc, ◌+◌, ◌≤◌, ◌<◌}
 use mathlib.Core.Path.{◌≡◌, refl, sym, ◌∙◌}
 use mathlib.Core.Bool.{Bool, true, false, cond, ◌&&◌}
@@ -8,7 +9,9 @@ use lib.Dec.{eqb, leb}
 use lib.ListN.{length, length-append}
 use borrow.Author.Tests.{eq-eqb, ne_eqb, le-leb, leb-true}
 use Rattle.wire.proofs.Chains.{and_right}
-use Rattle.packet.specs.TypeTable.{Row, row, type_table, allows, allowed}
+use Rattle.packet.specs.declared.message.MessageType.{MessageType}
+use Rattle.packet.specs.declared.message.MessageType.TheVariants as type
+use Rattle.packet.specs.TypeTable.{Row, row, type_table, allows, allowed, type_number}
 use Rattle.packet.specs.Message.{message_of}
 use Rattle.packet.proofs.Zeros.{clash}
 
@@ -40,6 +43,18 @@ allows-top top (row number least most ∷ rows) kind n w h =
 pub allowed-top : (kind n : ℕ) → allowed kind n ≡ true → n ≤ 251
 unfolding allowed within
 allowed-top kind n h = allows-top 251 type_table kind n (omega arith, (omega arith, (omega arith, (omega arith, (omega arith, tt))))) h
+
+-- a number of no type
+pub unknown-none : (number n : ℕ) → ((kind : MessageType) → type_number kind ≡ number → ⊥) → allowed number n ≡ false
+unfolding allowed allows
+unknown-none number n u =
+    simp (
+      ne_eqb number 1 (λ e. u type.Ping (sym e)),
+      ne_eqb number 2 (λ e. u type.Ack (sym e)),
+      ne_eqb number 3 (λ e. u type.DeviceWrite (sym e)),
+      ne_eqb number 4 (λ e. u type.DeviceData (sym e)),
+      ne_eqb number 5 (λ e. u type.Log (sym e)),
+    )
 
 -- 0 is no type
 pub zero-none : (n : ℕ) → allowed 0 n ≡ false

@@ -1,11 +1,12 @@
 -- "A packet is 00, a length byte L, then L encoded bytes, none of them 00."
-use Rattle.std.specs.Prelude.{ℕ, ◌+◌, ◌-◌, ◌≡◌, true, not, cond, List, [], ◌∷◌, ◌++◌, eqb, ltb, length, get_or, take, drop, replicate}
+use Rattle.std.specs.Prelude.{Result, Ok, Err, ℕ, ◌+◌, ◌-◌, ◌≡◌, true, not, cond, List, [], ◌∷◌, ◌++◌, eqb, ltb, length, get_or, take, drop, replicate}
 use Rattle.wire.specs.Zero.{has_zero}
 use Rattle.wire.specs.Area.{over}
-use Rattle.packet.specs.declared.Answer.{Answer}
-use Rattle.packet.specs.declared.Answer.TheVariants.{Packet, Refused}
+use Rattle.errors.specs.declared.Error.{Error}
+use Rattle.errors.specs.Number.{number_of}
+use Rattle.packet.specs.declared.Packet.{Packet}
 use Rattle.packet.specs.Cobs.{Encodes, lacking, decoded_part}
-use Rattle.packet.specs.TypeTable.{allowed}
+use Rattle.packet.specs.TypeTable.{type_number, allowed}
 use Rattle.packet.specs.Message.{message_of, message_error}
 
 -- the bytes are exactly one packet, of that type and payload
@@ -44,9 +45,9 @@ pub data Judgement : Type 0 where
   refused : (number : ℕ) → Judgement
 
 -- the number or the values for each case of the answer
-abbrev pub judgement_of : Answer → Judgement
-judgement_of (Packet kind payload_length consumed) = accepted kind payload_length consumed
-judgement_of (Refused number) = refused number
+abbrev pub judgement_of : Result Packet Error → Judgement
+judgement_of (Ok packet) = accepted (type_number packet.kind) packet.payload_len packet.consumed
+judgement_of (Err e) = refused (number_of e)
 
 -- a judgement beside the working copy
 pub record Reading : Type 0 where

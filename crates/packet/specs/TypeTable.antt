@@ -1,5 +1,9 @@
 -- The types of messages ("Ours:", the table of types, numbers and payload lengths).
-use Rattle.std.specs.Prelude.{ℕ, Bool, false, cond, ◌&&◌, List, [], ◌∷◌, eqb, leb}
+use Rattle.std.specs.Prelude.{ℕ, Bool, false, cond, ◌&&◌, List, [], ◌∷◌, eqb, leb, ◌≡◌, ◌≢◌, Result, MatchResult}
+use Rattle.errors.specs.declared.Error.{Error}
+use Rattle.errors.specs.declared.Error.TheVariants as error
+use Rattle.packet.specs.declared.message.MessageType.{MessageType}
+use Rattle.packet.specs.declared.message.MessageType.TheVariants as type
 
 -- the column "number"
 abbrev pub PING : ℕ
@@ -39,3 +43,15 @@ allows (row number least most ∷ rows) kind n = cond (eqb kind number) (leb lea
 -- the opposite of "type unknown, or its payload length not allowed"
 unfoldable pub allowed : ℕ → ℕ → Bool
 allowed kind n = allows type_table kind n
+
+-- the number of each type
+abbrev pub type_number : MessageType → ℕ
+type_number type.Ping = PING
+type_number type.Ack = ACK
+type_number type.DeviceWrite = DEVICE_WRITE
+type_number type.DeviceData = DEVICE_DATA
+type_number type.Log = LOG
+
+-- the type of a number, or 8 where no type has it
+abbrev pub IsType : ℕ → Result MessageType Error → Type 0
+IsType number r = MatchResult r (λ kind. type_number kind ≡ number) (λ e. (e ≡ error.MessageType) × ((kind : MessageType) → type_number kind ≢ number))

@@ -4,7 +4,7 @@ ghost use Rattle.wire.specs.Zero.{has_zero};
 ghost use Rattle.packet.specs.Message.{xor_from};
 ghost use Rattle.packet.specs.Cobs.{decoded_part, lacking};
 
-// What a look at every byte of a part finds.
+// What a look at every byte of a part finds. No Option: the exclusive or is that of all bytes, with a 00 among them too.
 #[derive(Drop)]
 pub struct Scanned {
     pub zero: bool,
@@ -17,11 +17,9 @@ pub fn scan(bytes: &[u8]) -> Scanned
 {
     let mut zero = false;
     let mut sum: u8 = 0;
-    let mut i = 0;
-    while i < bytes.len() {
-        zero = zero | (bytes[i] == 0);
-        sum = sum ^ bytes[i];
-        i += 1;
+    for b in bytes {
+        zero = zero | (*b == 0);
+        sum = sum ^ *b;
     }
     Scanned { zero, sum }
 }
@@ -41,6 +39,7 @@ pub fn walk(part: &[u8], all: u8) -> Walked
 {
     let mut sum = all as usize;
     let mut i = 0;
+    // Each code says how far the next one is, and a `for` goes by one; so in `decode_part`.
     while i < part.len() {
         let code = part[i] as usize;
         sum = sum ^ code;

@@ -1,94 +1,80 @@
 // Packet reading: the packet at the front of the bytes, later bytes ignored.
-ghost use Rattle.std.specs.Prelude.{◌≡◌};
+ghost use Rattle.std.specs.Prelude.{◌≡◌, get_or, IfOk};
+ghost use Rattle.packet.specs.Cobs.{decoded_part};
+ghost use Rattle.packet.specs.TypeTable.{type_number};
 ghost use Rattle.packet.specs.Message.{xor_from};
+ghost use Rattle.packet.specs.Refusal.{error_of};
 ghost use Rattle.packet.specs.Packet.{part_present, front_error, packet_error, judgement_of, decoded, filled};
 
 use super::cobs::{decode_part, scan, walk};
-use super::message::message_error;
-use super::{Answer, Decoded, PACKET_ROOM, PART_LEAST};
+use super::message::{MessageType, message_type};
+use super::{Decoded, PACKET_ROOM, PART_LEAST, Packet};
+use errors::Error;
 
-// The error of the front, and the exclusive or of the encoded bytes where there is none.
-#[derive(Drop)]
-struct Front {
-    error: u8,
-    sum: u8,
-}
-
-// A front with that error.
-fn refused(error: u8) -> Front
-    ensures { result.error ≡ error }
-{
-    Front { error, sum: 0 }
-}
-
-// The error of what stands before the blocks, 0 where there is none; one pass over the part finds a 00 and the exclusive or.
-fn front_error(bytes: &[u8]) -> Front
-    ensures { (result.error ≡ front_error bytes.now) × (result.error ≡ 0 → result.sum ≡ xor_from 0 (part_present bytes.now)) }
+// The exclusive or of the encoded bytes, or the first error of what stands before the blocks; one pass over the part finds
+// a 00 and the exclusive or.
+fn front_sum(bytes: &[u8]) -> Result<u8, Error>
+    ensures error { error_of result ≡ front_error bytes.now }
+    ensures sum { IfOk result (λ sum. sum ≡ xor_from 0 (part_present bytes.now)) }
 {
     if bytes.len() == 0 {
-        return refused(1);
+        return Err(Error::Incomplete);
     }
     if bytes[0] != 0 {
-        return refused(2);
+        return Err(Error::NoStart);
     }
     if bytes.len() == 1 {
-        return refused(1);
+        return Err(Error::Incomplete);
     }
     let n = bytes[1] as usize;
     if n < PART_LEAST {
-        return refused(3);
+        return Err(Error::ShortPart);
     }
     if bytes.len() < n + 2 {
         if wire::has_zero(&bytes[2..]) {
-            return refused(4);
+            return Err(Error::StrayZero);
         }
-        return refused(1);
+        return Err(Error::Incomplete);
     }
     let s = scan(&bytes[2..n + 2]);
     if s.zero {
-        return refused(4);
+        return Err(Error::StrayZero);
     }
-    Front {
-        error: 0,
-        sum: s.sum,
-    }
+    Ok(s.sum)
 }
 
-// The error of the packet at the front, 0 where there is none.
-pub fn packet_error(bytes: &[u8]) -> u8
-    ensures { result ≡ packet_error bytes.now }
+// Judges the packet at the front: the type of its message, or the first error. A byte in place of the Result would take 3 instructions
+// fewer for a good packet, a Result that holds the whole Packet 15 to 18 more.
+pub fn judge(bytes: &[u8]) -> Result<MessageType, Error>
+    ensures error { error_of result ≡ packet_error bytes.now }
+    ensures kind { IfOk result (λ kind. type_number kind ≡ get_or (decoded_part (part_present bytes.now)) 0 0) }
 {
-    let front = front_error(bytes);
-    if front.error != 0 {
-        return front.error;
-    }
+    let sum = front_sum(bytes)?;
     let n = bytes[1] as usize;
-    let w = walk(&bytes[2..n + 2], front.sum);
+    let part = &bytes[2..n + 2];
+    let w = walk(part, sum);
     if w.lack != 0 {
-        return 5;
+        return Err(Error::BlockPastEnd);
     }
-    message_error(&bytes[2..n + 2], w.sum)
+    message_type(part, w.sum)
 }
 
 // Judges the packet at the front and answers its type, payload length and size, or the first error.
 // The message goes to the front of the buffer; nothing is written before the last error is ruled out.
-pub fn decode_into(bytes: &[u8], buffer: &mut [u8]) -> Answer
+pub fn decode_into(bytes: &[u8], buffer: &mut [u8]) -> Result<Packet, Error>
     ensures { record { judgement = judgement_of result; buffer = buffer.new } ≡ filled bytes.now buffer.old }
 {
     if buffer.len() < PACKET_ROOM {
-        return Answer::Refused(20);
+        return Err(Error::NoRoom);
     }
-    let error = packet_error(bytes);
-    if error != 0 {
-        return Answer::Refused(error);
-    }
+    let kind = judge(bytes)?;
     let n = bytes[1] as usize;
     decode_part(&bytes[2..n + 2], &mut *buffer);
-    Answer::Packet {
-        kind: buffer[0],
+    Ok(Packet {
+        kind,
         payload_len: n - 4,
         consumed: n + 2,
-    }
+    })
 }
 
 // The same beside a working copy, which holds the message of an accepted packet, and zeros alone beside an error.

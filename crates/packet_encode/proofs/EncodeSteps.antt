@@ -56,9 +56,6 @@ module _ (gap : ℕ) (bytes part₀ part : List ℕ) (code i k : ℕ) (inv : Cod
   coded : code ≡ suc after
   coded = inv.next ∙ rw e
 
-  pub coding-in : k < length part
-  coding-in = rw whole (simp length-append (omega (arith, long)))
-
   pub coding-next : Coding gap bytes part₀ (set part k (code_or byte (code - 1))) (suc (gap_from byte (code - 1))) k
   unfolding gap_before stuffed
   coding-next = let g : code - 1 ≡ after = omega (arith, coded) in rw g record {

@@ -1,8 +1,8 @@
 -- Packet writing ("Packet writing: 20, 8").
-use Rattle.std.specs.Prelude.{ℕ, not, cond, List, ◌∷◌, eqb, ltb, length}
+use Rattle.std.specs.Prelude.{Result as Answer, Ok, Err, ℕ, not, cond, List, ◌∷◌, eqb, ltb, length}
 use Rattle.wire.specs.Area.{over}
-use Rattle.packet_encode.specs.declared.Encoded.{Encoded}
-use Rattle.packet_encode.specs.declared.Encoded.TheVariants.{Written, Refused}
+use Rattle.errors.specs.declared.Error.{Error}
+use Rattle.errors.specs.Number.{number_of}
 use Rattle.packet.specs.Cobs.{encoded_part}
 use Rattle.packet.specs.TypeTable.{allowed}
 use Rattle.packet.specs.Message.{message_of}
@@ -18,9 +18,9 @@ pub data Result : Type 0 where
   refused : (number : ℕ) → Result
 
 -- the number or the value for each case of the answer
-abbrev pub result_of : Encoded → Result
-result_of (Written count) = written count
-result_of (Refused number) = refused number
+abbrev pub result_of : Answer ℕ Error → Result
+result_of (Ok count) = written count
+result_of (Err e) = refused (number_of e)
 
 -- a result beside the lent buffer
 pub record Writing : Type 0 where

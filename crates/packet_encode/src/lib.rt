@@ -7,15 +7,8 @@ ghost use Rattle.packet.specs.Cobs.{code_or, gap_from, gap_before, stuffed};
 ghost use Rattle.packet_encode.specs.Encode.{result_of, encoded};
 ghost use Rattle.packet_encode.specs.Word.{word_size};
 
+use errors::Error;
 use packet::{PACKET_ROOM, is_allowed};
-
-#[derive(Drop)]
-pub enum Encoded {
-    // The number of bytes written.
-    Written(usize),
-    // The number of the error.
-    Refused(u8),
-}
 
 // The bytes of a word.
 const WORD: usize = 8;
@@ -25,10 +18,8 @@ fn xor_from(start: u8, bytes: &[u8]) -> u8
     ensures { result ≡ xor_from start bytes.now }
 {
     let mut x = start;
-    let mut i = 0;
-    while i < bytes.len() {
-        x = x ^ bytes[i];
-        i += 1;
+    for b in bytes {
+        x = x ^ *b;
     }
     x
 }
@@ -44,7 +35,8 @@ fn xor_word(start: u8, word: &[u8]) -> u8
 // From how many bytes on a loop on many at once is faster than one that goes word by word.
 const MANY: usize = 32;
 
-// The exclusive or of all bytes: of fewer than MANY word by word, and what is left of them byte by byte.
+// The exclusive or of all bytes: of fewer than MANY word by word, and what is left of them byte by byte. The library's chunks are
+// generic calls, which tests/no_arrays.sh refuses, so the loops by words count their offset.
 fn xor_of(bytes: &[u8]) -> u8
     ensures { result ≡ xor_from 0 bytes.now }
 {
@@ -78,15 +70,15 @@ fn next_code(byte: u8, code: usize) -> usize
     if byte == 0 { 1 } else { code + 1 }
 }
 
+// `bytes` and `part` stay two slices: they are cut anew for each word, and a struct of both would be made anew with them.
+
 // Encodes bytes of the message from the back, where `last` is the code at the last one's place. Answers the code one place before the first.
 fn encode_few(bytes: &[u8], last: usize, part: &mut [u8]) -> usize
     requires { (length bytes.now ≡ length part.old) × (0 < last) × (last + length bytes.now < 256) }
     ensures { (result ≡ suc (gap_before (last - 1) bytes.now)) × (part.new ≡ stuffed (last - 1) bytes.now) }
 {
     let mut code = last;
-    let mut i = bytes.len();
-    while 0 < i {
-        i -= 1;
+    for i in (0..bytes.len()).rev() {
         let b = bytes[i];
         part[i] = code_or(b, code);
         code = next_code(b, code);
@@ -94,15 +86,14 @@ fn encode_few(bytes: &[u8], last: usize, part: &mut [u8]) -> usize
     code
 }
 
-// As `encode_few`, where the part holds the bytes: only zeros are replaced.
+// As `encode_few`, where the part holds the bytes: only zeros are replaced. One function for both would be generic in that, and
+// tests/no_arrays.sh refuses generic calls.
 fn put_codes(bytes: &[u8], last: usize, part: &mut [u8]) -> usize
     requires { (part.old ≡ bytes.now) × (0 < last) × (last + length bytes.now < 256) }
     ensures { (result ≡ suc (gap_before (last - 1) bytes.now)) × (part.new ≡ stuffed (last - 1) bytes.now) }
 {
     let mut code = last;
-    let mut i = bytes.len();
-    while 0 < i {
-        i -= 1;
+    for i in (0..bytes.len()).rev() {
         if bytes[i] == 0 {
             part[i] = code as u8;
             code = 1;
@@ -172,27 +163,28 @@ fn put_front(buffer: &mut [u8], kind: u8, n: usize, code: usize)
     buffer[4] = code_or(len, code);
 }
 
-// Writes the packet of a type and a payload to the front of the buffer. Nothing is written before the last error is ruled out.
-pub fn encode(kind: u8, payload: &[u8], buffer: &mut [u8]) -> Encoded
+// Writes the packet of a type and a payload to the front of the buffer, and answers how many bytes it has. Nothing is written
+// before the last error is ruled out. The type is a number, since C may ask for any.
+pub fn encode(kind: u8, payload: &[u8], buffer: &mut [u8]) -> Result<usize, Error>
     ensures { record { result = result_of result; buffer = buffer.new } ≡ encoded kind payload.now buffer.old }
 {
     if buffer.len() < PACKET_ROOM {
-        return Encoded::Refused(20);
+        return Err(Error::NoRoom);
     }
     let n = payload.len();
     if !is_allowed(kind, n) {
-        return Encoded::Refused(8);
+        return Err(Error::MessageType);
     }
     if n == 0 {
         // Written at once, for speed: the checksum is the type.
         buffer[5] = kind;
         put_front(&mut *buffer, kind, 0, 2);
-        return Encoded::Written(6);
+        return Ok(6);
     }
     let sum = xor_of(payload) ^ (kind ^ n as u8);
     buffer[n + 5] = code_or(sum, 1);
     let last = next_code(sum, 1);
     let code = encode_bytes(payload, last, &mut buffer[5..n + 5]);
     put_front(&mut *buffer, kind, n, code);
-    Encoded::Written(n + 6)
+    Ok(n + 6)
 }

@@ -9,10 +9,12 @@ use Rattle.packet.proofs.Zeros.{clash}
 use Rattle.packet.proofs.FrontTests.{Front}
 use Rattle.packet.proofs.DecodeStages.{good-front}
 use Rattle.packet.proofs.Stands.{late-front}
+use Rattle.std.specs.Prelude.{Option, Some, None}
+use Rattle.packet_line.specs.declared.Finding.{Finding as Declared}
 use Rattle.packet_line.specs.State.{State, fresh, skipping, opened, inside, LINE_ROOM, INSIDE, size_in, held_in, state_bytes, state_in, is_state}
 use Rattle.packet_line.specs.Turn.{Finding, nothing, good, refused}
-use Rattle.packet_line.specs.Push.{Answer, more_wanted, Outcome, outcome, Taken, taken, taken_from, in_areas, outcome_of}
-use Rattle.packet_line.specs.Steps.{IsInside, IsJudged, Entered, delivered, later, settled_answer, settled_state}
+use Rattle.packet_line.specs.Push.{Answer, Outcome, outcome, Taken, taken, taken_from, in_areas, outcome_of}
+use Rattle.packet_line.specs.Steps.{IsInside, IsJudged, Ended, Begun, Entered, delivered, later, settled_answer, settled_state}
 use Rattle.packet_line.proofs.States.{inside-state}
 use Rattle.packet_line.proofs.Taking.{fresh-zero, skip-zero, fresh-other, skip-run, skip-more, length-zero, length-small, length_taken, taken-within, whole-good, whole-bad}
 
@@ -156,32 +158,42 @@ judged-here error out bytes area e o = record { whole = λ q. (e, o); kept = λ 
 
 -- the way's end: a finding, a part that begins, a part that has begun before
 pub reached-found : {a : Answer} {n : ℕ} {line out : List ℕ} (st : State) (bytes area : List ℕ) → outcome a n line out ≡ outcome_of (taken_from st bytes) area
-    → Entered false a n line out st bytes area
-reached-found st bytes area e = record { fits = took-within area st bytes e; found = λ q. e; begins = λ q. clash (sym q) }
+    → Ended a n line out st bytes area
+reached-found st bytes area e = record { fits = took-within area st bytes e; found = e }
 
 pub reached-part : (line bytes area : List ℕ) (size : ℕ) → line ≡ state_bytes (inside size []) → is_state (inside size []) ≡ true → 1 ≤ length bytes
-    → taken_from opened bytes ≡ later 1 (taken_from (inside size []) (drop 1 bytes)) → Entered true more_wanted 1 line area opened bytes area
+    → taken_from opened bytes ≡ later 1 (taken_from (inside size []) (drop 1 bytes)) → Begun 1 line area opened bytes area
 reached-part line bytes area size e h l t =
     let b = inside-bytes size [] h in
-    record { fits = l; found = λ q. clash q; begins = λ q. rw (e, b.1, b.2) (b.0, refl, t) }
+    rw e (record { fits = l; within = b.0; kept = refl; rest = rw (b.1, b.2) t })
 
 later-none : (t : Taken) → later 0 t ≡ t
 later-none t = rw (zero-add t.consumed)
 
-pub reached-inside : (line bytes area : List ℕ) → IsInside line → state_in line ≡ inside (size_in line) (held_in line) → Entered true more_wanted 0 line area (state_in line) bytes area
-reached-inside line bytes area i e = rw e (record { fits = omega arith; found = λ q. clash q; begins = λ q. (i, refl, sym (later-none _)) })
+pub reached-inside : (line bytes area : List ℕ) → IsInside line → state_in line ≡ inside (size_in line) (held_in line) → Begun 0 line area (state_in line) bytes area
+reached-inside line bytes area i e = rw e (record { fits = omega arith; within = i; kept = refl; rest = sym (later-none _) })
 
 -- the same behind so many more bytes
 later-sum : (k n : ℕ) (t : Taken) → later k (later n t) ≡ later (k + n) t
 later-sum k n t = let e : k + (n + t.consumed) ≡ k + n + t.consumed = omega arith in rw e
 
-pub reached-later : {part : Bool} {a : Answer} {n : ℕ} {line out : List ℕ} (k : ℕ) (st next : State) (bytes area : List ℕ) → k ≤ length bytes
-    → taken_from st bytes ≡ later k (taken_from next (drop k bytes)) → Entered part a n line out next (drop k bytes) area → Entered part a (k + n) line out st bytes area
-reached-later {n = n} {line = line} k st next bytes area h e r = record {
+pub entered-fits : (finding : Option Declared) (at : ℕ) (line out : List ℕ) (st : State) (bytes area : List ℕ)
+    → Entered (record { finding = finding; at = at }) line out st bytes area → at ≤ length bytes
+entered-fits (Some f) at line out st bytes area r = r.fits
+entered-fits None at line out st bytes area r = r.fits
+
+pub reached-later : (finding : Option Declared) (n : ℕ) (line out : List ℕ) (k : ℕ) (st next : State) (bytes area : List ℕ) → k ≤ length bytes
+    → taken_from st bytes ≡ later k (taken_from next (drop k bytes)) → Entered (record { finding = finding; at = n }) line out next (drop k bytes) area
+    → Entered (record { finding = finding; at = k + n }) line out st bytes area
+reached-later (Some f) n line out k st next bytes area h t r = record {
   fits = omega (arith, r.fits, length-drop k bytes);
-  found = λ q. further k area (taken_from next (drop k bytes)) (r.found q) ∙ ap (λ (t : Taken). outcome_of t area) (sym e);
-  begins = λ q.
-      let b = r.begins q in
-      let on = inside (size_in line) (held_in line) in
-      (b.0, b.1, e ∙ ap (later k) b.2 ∙ later-sum k n (taken_from on (drop n (drop k bytes))) ∙ ap (λ (l : List ℕ). later (k + n) (taken_from on l)) (drop-drop n k bytes));
+  found = further k area (taken_from next (drop k bytes)) r.found ∙ ap (λ (t : Taken). outcome_of t area) (sym t);
 }
+reached-later None n line out k st next bytes area h t r =
+    let on = inside (size_in line) (held_in line) in
+    record {
+      fits = omega (arith, r.fits, length-drop k bytes);
+      within = r.within;
+      kept = r.kept;
+      rest = t ∙ ap (later k) r.rest ∙ later-sum k n (taken_from on (drop n (drop k bytes))) ∙ ap (λ (l : List ℕ). later (k + n) (taken_from on l)) (drop-drop n k bytes);
+    }

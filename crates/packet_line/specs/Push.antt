@@ -2,6 +2,7 @@
 use Rattle.std.specs.Prelude.{ℕ, suc, cond, List, [], ◌∷◌, length, nat_lt}
 use Rattle.wire.specs.Area.{over}
 use Rattle.packet.specs.Packet.{PACKET_ROOM}
+use Rattle.errors.specs.Number.{number_of}
 use Rattle.packet_line.specs.declared.Finding.{Finding as Declared}
 use Rattle.packet_line.specs.declared.Finding.TheVariants as declared
 use Rattle.packet_line.specs.State.{State, state_bytes, state_in, is_line}
@@ -63,4 +64,4 @@ pushed line bytes area =
 abbrev pub answer_of : Declared → Answer
 answer_of declared.Nothing = more_wanted
 answer_of declared.Packet = handed_over
-answer_of (declared.Refused number) = refusal number
+answer_of (declared.Refused e) = refusal (number_of e)

@@ -1,11 +1,13 @@
 -- INTERNAL: what the functions below the call promise each other. A reader of the call's contract needs none of it.
-use Rattle.std.specs.Prelude.{◌≡◌, ℕ, ◌+◌, ◌≤◌, Bool, true, false, cond, ◌||◌, List, [], ◌∷◌, length, take, drop, ◌==◌, nat_lt, slice_index}
+use Rattle.std.specs.Prelude.{◌≡◌, ℕ, ◌+◌, ◌≤◌, Bool, true, false, cond, ◌||◌, List, [], ◌∷◌, length, take, drop, ◌==◌, nat_lt, slice_index, MatchOption}
 use Rattle.std.specs.Bool.{beq}
 use Rattle.wire.specs.Area.{over}
 use Rattle.packet.specs.Packet.{length_byte, packet_error}
 use Rattle.packet_line.specs.State.{State, fresh, skipping, inside, size_in, held_in, state_bytes, is_state, line_of}
 use Rattle.packet_line.specs.Turn.{Turn}
-use Rattle.packet_line.specs.Push.{Answer, handed_over, refusal, Taken, taken, taken_from, outcome, outcome_of}
+use Rattle.packet_line.specs.declared.Pushed.{Pushed}
+use Rattle.packet_line.specs.declared.Entry.{Entry}
+use Rattle.packet_line.specs.Push.{answer_of, Answer, handed_over, refusal, Taken, taken, taken_from, outcome, outcome_of}
 
 -- a state with nothing held, its phase in front
 pub record IsClean (line : List ℕ) : Type 0 where
@@ -34,11 +36,29 @@ turned consumed t = taken t.finding consumed t.next
 abbrev pub later : ℕ → Taken → Taken
 later n t = taken t.finding (n + t.consumed) t.state
 
--- where the way to a part's bytes ends: with what the bytes decide, or with a part that begins behind so many of them
-pub record Entered (part : Bool) (answer : Answer) (at : ℕ) (line out : List ℕ) (state : State) (bytes area : List ℕ) : Type 0 where
+-- an answer behind so many more bytes
+abbrev pub pushed_behind : ℕ → Pushed → Pushed
+pushed_behind before p = record { finding = p.finding; consumed = before + p.consumed }
+
+abbrev pub entry_behind : ℕ → Entry → Entry
+entry_behind before e = record { finding = e.finding; at = before + e.at }
+
+-- the way ends with what the bytes decide
+pub record Ended (answer : Answer) (consumed : ℕ) (line out : List ℕ) (state : State) (bytes area : List ℕ) : Type 0 where
+  pub fits : consumed ≤ length bytes
+  pub found : outcome answer consumed line out ≡ outcome_of (taken_from state bytes) area
+
+-- the way ends at a part that begins behind so many of the bytes
+pub record Begun (at : ℕ) (line out : List ℕ) (state : State) (bytes area : List ℕ) : Type 0 where
   pub fits : at ≤ length bytes
-  pub found : part ≡ false → outcome answer at line out ≡ outcome_of (taken_from state bytes) area
-  pub begins : part ≡ true → (IsInside line) × (out ≡ area) × (taken_from state bytes ≡ later at (taken_from (inside (size_in line) (held_in line)) (drop at bytes)))
+  pub within : IsInside line
+  pub kept : out ≡ area
+  pub rest : taken_from state bytes ≡ later at (taken_from (inside (size_in line) (held_in line)) (drop at bytes))
+
+-- where the way to a part's bytes ends
+abbrev pub Entered : Entry → (line out : List ℕ) → State → (bytes area : List ℕ) → Type 0
+Entered e line out state bytes area =
+    MatchOption e.finding (Begun e.at line out state bytes area) (λ finding. Ended (answer_of finding) e.at line out state bytes area)
 
 -- what is answered of a packet that was judged, and the state behind it
 abbrev pub settled_answer : ℕ → Answer

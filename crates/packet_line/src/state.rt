@@ -75,10 +75,8 @@ fn filled(s: &[u8]) -> u8
     ensures { result ≡ filled_of s.now % 256 }
 {
     let mut n: u8 = 0;
-    let mut i = 0;
-    while i < s.len() {
-        n = counted(n, s[i]);
-        i += 1;
+    for byte in s {
+        n = counted(n, *byte);
     }
     n
 }
@@ -90,5 +88,5 @@ fn counted(n: u8, byte: u8) -> u8
     if byte == 0 {
         return n;
     }
-    std::num::wrapping_add_u8(n, 1)
+    n.wrapping_add(1)
 }

@@ -7,9 +7,10 @@ use native.Mathlib.Omega.{arith}
 use lib.Dec.{ltb}
 use lib.ListN.{length, get_or-replicate}
 use borrow.Author.Tests.{lt-ltb, ltb-true}
+use Rattle.std.specs.Prelude.{Option, Some, None}
 use Rattle.wire.specs.Number.{number_at, Bytes}
 use Rattle.catalogue.specs.Format.{kind_int}
-use Rattle.catalogue.specs.Lookup.{parameter_of}
+use Rattle.catalogue.specs.Lookup.{parameter_of, kind_in}
 use Rattle.value.specs.Meaning.{whole, int_of, short_of, extended, meant}
 use Rattle.value.proofs.Shorts.{extended-says}
 use Rattle.slot.specs.Slot.{param_count, present_at, bits_at, fresh_slot}
@@ -17,8 +18,6 @@ use Rattle.slot.specs.Rows.{slot_at}
 use Rattle.slot.specs.declared.Slot.{Slot}
 use Rattle.slot.proofs.Filling.{number_small}
 use Rattle.table.specs.Places.{place_of, row_at}
-use Rattle.table.specs.declared.Place.{Place}
-use Rattle.table.specs.declared.Place.TheVariants.{At, Nowhere}
 use Rattle.parameters.specs.Data.{map_of, named, long_int_year, short_width, long_width, offset_of, value_in, stored}
 use Rattle.parameters.specs.Read.{held, absent, refused, content_of, finding, found}
 use Rattle.parameters.proofs.Widths.{width-old, width-new, held_plain, held-short}
@@ -44,13 +43,13 @@ module _
     pub named-reads :
         p < param_count → named (map_of payload) p ≡ true →
         content_of c (stored c payload s) p ≡
-        held (meant (parameter_of c s.device p).kind (value_in c s (map_of payload) payload p))
+        held (meant (kind_in (parameter_of c s.device p)) (value_in c s (map_of payload) payload p))
     unfolding content_of
     named-reads l n =
         rw (lt-ltb p param_count l, present-as true l n, bits-as true l n, (data-same-device c payload s).device-same)
 
     -- an INT that the map names
-    module _ (l : p < param_count) (n : named (map_of payload) p ≡ true) (k : (parameter_of c s.device p).kind ≡ kind_int) where
+    module _ (l : p < param_count) (n : named (map_of payload) p ≡ true) (k : (kind_in (parameter_of c s.device p)) ≡ kind_int) where
       -- LAW: from a device of a year below 6 the 32 bits of the signed number of its two bytes are held
       pub old-int-bits :
           s.year < long_int_year → bits_at (stored c payload s) p ≡ extended (number_at short_width payload (offset_of c s (map_of payload) p))
@@ -79,8 +78,8 @@ module _
       where
         go :
             (b : Bool) → ltb p param_count ≡ b →
-            cond (b && present_at after p) (held (meant (parameter_of c after.device p).kind (bits_at after p))) absent ≡
-            cond (b && present_at s p) (held (meant (parameter_of c s.device p).kind (bits_at s p))) absent
+            cond (b && present_at after p) (held (meant (kind_in (parameter_of c after.device p)) (bits_at after p))) absent ≡
+            cond (b && present_at s p) (held (meant (kind_in (parameter_of c s.device p)) (bits_at s p))) absent
         go false e = refl
         go true e =
             let l = ltb-true p param_count e in
@@ -95,16 +94,16 @@ fresh-reads c taken socket device year uid p = go (ltb p param_count) refl
     go :
         (b : Bool) → ltb p param_count ≡ b →
         cond (b && present_at (fresh_slot taken socket device year uid) p)
-        (held (meant (parameter_of c device p).kind (bits_at (fresh_slot taken socket device year uid) p)))
+        (held (meant (kind_in (parameter_of c device p)) (bits_at (fresh_slot taken socket device year uid) p)))
         absent ≡ absent
     go false e = refl
     go true e = rw (get_or-replicate param_count p false false (ltb-true p param_count e))
 
 -- LAW: reading answers what the row of the socket's device holds
 pub read_found :
-    (slots : ℕ) (c t : List ℕ) (socket i p : ℕ) → place_of slots t socket ≡ At i → found slots c t socket p ≡ content_of c (slot_at t i) p
-read_found slots c t socket i p e = ap (λ (z : Place). finding c (row_at t z) p) e
+    (slots : ℕ) (c t : List ℕ) (socket i p : ℕ) → place_of slots t socket ≡ Some i → found slots c t socket p ≡ content_of c (slot_at t i) p
+read_found slots c t socket i p e = ap (λ (z : Option ℕ). finding c (row_at t z) p) e
 
 -- LAW: and 15 where the socket has none
-pub read_none : (slots : ℕ) (c t : List ℕ) (socket p : ℕ) → place_of slots t socket ≡ Nowhere → found slots c t socket p ≡ refused 15
-read_none slots c t socket p e = ap (λ (z : Place). finding c (row_at t z) p) e
+pub read_none : (slots : ℕ) (c t : List ℕ) (socket p : ℕ) → place_of slots t socket ≡ None → found slots c t socket p ≡ refused 15
+read_none slots c t socket p e = ap (λ (z : Option ℕ). finding c (row_at t z) p) e

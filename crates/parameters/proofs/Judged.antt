@@ -12,7 +12,7 @@ use borrow.Author.Tests.{eq-eqb, ne_eqb, eqb-true, eqb-false, le-leb, lt-leb, le
 use Rattle.wire.specs.Every.{every}
 use Rattle.wire.proofs.Chains.{and_left, and_right, and-true, every-at, every-stop}
 use Rattle.catalogue.specs.Format.{kind_bool}
-use Rattle.catalogue.specs.Lookup.{parameter_of}
+use Rattle.catalogue.specs.Lookup.{parameter_of, is_readable, kind_in}
 use Rattle.slot.specs.Slot.{param_count}
 use Rattle.slot.specs.declared.Slot.{Slot}
 use Rattle.slot.proofs.Filling.{every-each}
@@ -23,7 +23,7 @@ use Rattle.parameters.specs.Data.{map_of, named, value_in, readable_if, all_read
 
 -- each named parameter is readable
 abbrev pub Readable : List ℕ → Slot → List ℕ → Type 0
-Readable c s payload = (p : ℕ) → p < param_count → named (map_of payload) p ≡ true → (parameter_of c s.device p).readable ≡ true
+Readable c s payload = (p : ℕ) → p < param_count → named (map_of payload) p ≡ true → is_readable (parameter_of c s.device p) ≡ true
 
 -- the payload fits the row's device
 pub record Judged (c : List ℕ) (s : Slot) (payload : List ℕ) : Type 0 where
@@ -32,7 +32,7 @@ pub record Judged (c : List ℕ) (s : Slot) (payload : List ℕ) : Type 0 where
   pub fits : length payload ≡ size_of c s (map_of payload)
   -- each named BOOL is 0 or 1
   pub flags :
-      (p : ℕ) → p < param_count → named (map_of payload) p ≡ true → (parameter_of c s.device p).kind ≡ kind_bool →
+      (p : ℕ) → p < param_count → named (map_of payload) p ≡ true → kind_in (parameter_of c s.device p) ≡ kind_bool →
       value_in c s (map_of payload) payload p ≤ 1
 
 -- 16: "a set bit has no readable parameter"
@@ -40,7 +40,7 @@ pub record Unreadable (c : List ℕ) (s : Slot) (payload : List ℕ) : Type 0 wh
   pub index : ℕ
   pub below : index < param_count
   pub is-named : named (map_of payload) index ≡ true
-  pub not-readable : (parameter_of c s.device index).readable ≡ false
+  pub not-readable : (is_readable (parameter_of c s.device index)) ≡ false
 
 -- 17: "values longer or shorter than the bits require"
 pub record Unfitting (c : List ℕ) (s : Slot) (payload : List ℕ) : Type 0 where
@@ -54,7 +54,7 @@ pub record NoFlag (c : List ℕ) (s : Slot) (payload : List ℕ) : Type 0 where
   pub index : ℕ
   pub below : index < param_count
   pub is-named : named (map_of payload) index ≡ true
-  pub is-bool : (parameter_of c s.device index).kind ≡ kind_bool
+  pub is-bool : (kind_in (parameter_of c s.device index)) ≡ kind_bool
   pub above : 1 < value_in c s (map_of payload) payload index
 
 -- a test that does not hold at every index fails at one
@@ -113,11 +113,11 @@ module _ (c : List ℕ) (s : Slot) (payload : List ℕ) where
   abbrev map : ℕ
   map = map_of payload
 
-  abbrev is_readable : ℕ → Bool
-  is_readable p = (parameter_of c s.device p).readable
+  abbrev may_read : ℕ → Bool
+  may_read p = is_readable (parameter_of c s.device p)
 
   abbrev is_bool : ℕ → Bool
-  is_bool p = eqb (parameter_of c s.device p).kind kind_bool
+  is_bool p = eqb (kind_in (parameter_of c s.device p)) kind_bool
 
   abbrev value : ℕ → ℕ
   value p = value_in c s map payload p
@@ -133,11 +133,11 @@ module _ (c : List ℕ) (s : Slot) (payload : List ℕ) where
 
   readables-mean : readables ≡ true → Readable c s payload
   unfolding all_readable
-  readables-mean e p l n = imply (named map p) (is_readable p) (every-at param_count (λ q. readable_if c s q (named map q)) e p l) n
+  readables-mean e p l n = imply (named map p) (may_read p) (every-at param_count (λ q. readable_if c s q (named map q)) e p l) n
 
   all-readable : Readable c s payload → readables ≡ true
   unfolding all_readable
-  all-readable h = every-each param_count (λ q. readable_if c s q (named map q)) (λ p l. implied (named map p) (is_readable p) (h p l))
+  all-readable h = every-each param_count (λ q. readable_if c s q (named map q)) (λ p l. implied (named map p) (may_read p) (h p l))
 
   all-flags : Judged c s payload → flagged ≡ true
   unfolding all_flags
@@ -148,7 +148,7 @@ module _ (c : List ℕ) (s : Slot) (payload : List ℕ) where
       (λ e.
       le-leb (value p) 1
       (h.flags p l (and_left (named map p) (is_bool p) e)
-      (eqb-true (parameter_of c s.device p).kind kind_bool (and_right (named map p) (is_bool p) e)))))
+      (eqb-true (kind_in (parameter_of c s.device p)) kind_bool (and_right (named map p) (is_bool p) e)))))
 
   -- LAW: what is accepted fits
   pub judged-means : judged c s payload ≡ accepted → Judged c s payload
@@ -163,7 +163,7 @@ module _ (c : List ℕ) (s : Slot) (payload : List ℕ) where
             leb-true (value p) 1
             (imply (named map p && is_bool p) (leb (value p) 1)
             (every-at param_count (λ q. flag_if c s q (named map q) (value q)) g.2 p l)
-            (and-true (named map p) (is_bool p) n (eq-eqb (parameter_of c s.device p).kind kind_bool k)));
+            (and-true (named map p) (is_bool p) n (eq-eqb (kind_in (parameter_of c s.device p)) kind_bool k)));
       }
 
   -- LAW: what fits is accepted
@@ -176,7 +176,7 @@ module _ (c : List ℕ) (s : Slot) (payload : List ℕ) where
   unfolding judged all_readable
   refused-16-means e =
       let f = failing param_count (λ q. readable_if c s q (named map q)) (by-16 readables sized flagged e) in
-      let n = implies-not (named map f.0) (is_readable f.0) f.2 in
+      let n = implies-not (named map f.0) (may_read f.0) f.2 in
       record { index = f.0; below = f.1; is-named = n.0; not-readable = n.1 }
 
   -- LAW: and wherever one is
@@ -212,7 +212,7 @@ module _ (c : List ℕ) (s : Slot) (payload : List ℕ) where
         index = f.0;
         below = f.1;
         is-named = and_left (named map f.0) (is_bool f.0) n.0;
-        is-bool = eqb-true (parameter_of c s.device f.0).kind kind_bool (and_right (named map f.0) (is_bool f.0) n.0);
+        is-bool = eqb-true (kind_in (parameter_of c s.device f.0)) kind_bool (and_right (named map f.0) (is_bool f.0) n.0);
         above = leb-false (value f.0) 1 n.1;
       }
 
@@ -222,7 +222,7 @@ module _ (c : List ℕ) (s : Slot) (payload : List ℕ) where
   means-refused-18 u =
       let test : ℕ → Bool = λ q. flag_if c s q (named map q) (value q) in
       let one : test u.index ≡ false =
-      rw (u.is-named, eq-eqb (parameter_of c s.device u.index).kind kind_bool u.is-bool, lt-leb (value u.index) 1 u.above) in
+      rw (u.is-named, eq-eqb (kind_in (parameter_of c s.device u.index)) kind_bool u.is-bool, lt-leb (value u.index) 1 u.above) in
       rw (
         all-readable u.readable,
         eq-eqb (size_of c s map) (length payload) (sym u.fits),

@@ -5,17 +5,16 @@ use mathlib.Core.Bool.{Bool, true, false, cond}
 use mathlib.Core.List.{List}
 use mathlib.Core.Logic.{◌≢◌}
 use lib.ListN.{length}
+use Rattle.std.specs.Prelude.{Option, Some, None}
 use Rattle.wire.specs.Number.{Bytes}
 use Rattle.catalogue.specs.Format.{kind_bool}
-use Rattle.catalogue.specs.Lookup.{parameter_of}
+use Rattle.catalogue.specs.Lookup.{parameter_of, is_readable, kind_in}
 use Rattle.slot.specs.Slot.{param_count, present_at, bits_at, Fits}
 use Rattle.slot.specs.Rows.{slot_at, with_slot}
 use Rattle.slot.specs.declared.Slot.{Slot}
 use Rattle.slot.proofs.Rows.{slot-fits, slot-shaped, same-slot}
 use Rattle.table.specs.Places.{place_of, row_at, row_of}
 use Rattle.table.specs.Change.{Verdict, accepted, refused, Effect, refusal, acceptance, Change, becomes, denied, changed_at}
-use Rattle.table.specs.declared.Place.{Place}
-use Rattle.table.specs.declared.Place.TheVariants.{At, Nowhere}
 use Rattle.table.proofs.Tests.{never}
 use Rattle.table.proofs.Searches.{holds_parts, place_found}
 use Rattle.table.proofs.Changes.{is_accepted, row_left, FitsChange, changed-others, changed-denied, changed-bytes}
@@ -56,13 +55,13 @@ module _
 
     readable-after :
         Judged c s payload → (b : Bool) → (p : ℕ) → p < param_count → named map p ≡ b →
-        cond b true (present_at s p) ≡ true → (parameter_of c s.device p).readable ≡ true
+        cond b true (present_at s p) ≡ true → is_readable (parameter_of c s.device p) ≡ true
     readable-after g true p l n e = g.readable p l n
     readable-after g false p l n e = h.value-readable p l e
 
     flag-after :
         Judged c s payload → (b : Bool) → (p : ℕ) → p < param_count → named map p ≡ b →
-        cond b true (present_at s p) ≡ true → (parameter_of c s.device p).kind ≡ kind_bool →
+        cond b true (present_at s p) ≡ true → kind_in (parameter_of c s.device p) ≡ kind_bool →
         cond b (value_in c s map payload p) (bits_at s p) ≤ 1
     flag-after g true p l n e k = g.flags p l n k
     flag-after g false p l n e k = h.flag_small p l e k
@@ -99,30 +98,30 @@ leaves-fits (refused n) s f = tt
 -- an accepted packet: the socket's slot, that the payload fits its row, and the table with the row's new values
 pub record Accepted (slots : ℕ) (c t : List ℕ) (socket : ℕ) (payload : List ℕ) : Type 0 where
   pub index : ℕ
-  pub place : place_of slots t socket ≡ At index
+  pub place : place_of slots t socket ≡ Some index
   pub fits : judged c (slot_at t index) payload ≡ accepted
   pub result : (data_applied slots c t socket payload).table ≡ with_slot t index (stored c payload (slot_at t index))
 
 module _ (slots : ℕ) (c t : List ℕ) (socket : ℕ) (payload : List ℕ) where
-  abbrev place : Place
+  abbrev place : Option ℕ
   place = place_of slots t socket
 
   abbrev effect : Effect
   effect = data_applied slots c t socket payload
 
-  abbrev change_at : Place → Change
+  abbrev change_at : Option ℕ → Change
   change_at p = data_change c (row_at t p) payload
 
   -- LAW: the row that a packet leaves has its fields' types
   pub change-fits : Bytes t → Bytes payload → FitsChange (data_change c (row_of slots t socket) payload)
   change-fits b h = go (place_of slots t socket)
     where
-      go : (p : Place) → FitsChange (data_change c (row_at t p) payload)
-      go (At i) = leaves-fits (judged c (slot_at t i) payload) (stored c payload (slot_at t i)) (data-fits c payload (slot_at t i) h (slot-fits t b i))
-      go Nowhere = tt
+      go : (p : Option ℕ) → FitsChange (data_change c (row_at t p) payload)
+      go (Some i) = leaves-fits (judged c (slot_at t i) payload) (stored c payload (slot_at t i)) (data-fits c payload (slot_at t i) h (slot-fits t b i))
+      go None = tt
 
   -- LAW: every slot but the socket's is exactly as it was
-  pub data-others : (j : ℕ) → place_of slots t socket ≢ At j → slot_at (data_applied slots c t socket payload).table j ≡ slot_at t j
+  pub data-others : (j : ℕ) → place_of slots t socket ≢ Some j → slot_at (data_applied slots c t socket payload).table j ≡ slot_at t j
   data-others = changed-others t place (change_at place)
 
   -- LAW: a refused packet keeps the table: nothing is written before the last refusal is ruled out
@@ -134,30 +133,30 @@ module _ (slots : ℕ) (c t : List ℕ) (socket : ℕ) (payload : List ℕ) wher
   data-bytes b h = changed-bytes t place (change_at place) b (change-fits b h)
 
   -- LAW: a socket without a device is 15
-  pub data-none : place_of slots t socket ≡ Nowhere → data_applied slots c t socket payload ≡ refusal t 15
-  data-none e = ap (λ (p : Place). changed_at t p (change_at p)) e
+  pub data-none : place_of slots t socket ≡ None → data_applied slots c t socket payload ≡ refusal t 15
+  data-none e = ap (λ (p : Option ℕ). changed_at t p (change_at p)) e
 
   at_slot :
-      (i : ℕ) → place_of slots t socket ≡ At i → (v : Verdict) → judged c (slot_at t i) payload ≡ v →
-      effect ≡ changed_at t (At i) (becomes_if v (stored c payload (slot_at t i)))
+      (i : ℕ) → place_of slots t socket ≡ Some i → (v : Verdict) → judged c (slot_at t i) payload ≡ v →
+      effect ≡ changed_at t (Some i) (becomes_if v (stored c payload (slot_at t i)))
   at_slot i e v j =
-      ap (λ (p : Place). changed_at t p (change_at p)) e ∙ ap (λ (w : Verdict). changed_at t (At i) (becomes_if w (stored c payload (slot_at t i)))) j
+      ap (λ (p : Option ℕ). changed_at t p (change_at p)) e ∙ ap (λ (w : Verdict). changed_at t (Some i) (becomes_if w (stored c payload (slot_at t i)))) j
 
   -- LAW: a payload that fits the row of the socket's device is stored in it
   pub data-stores :
-      (i : ℕ) → place_of slots t socket ≡ At i → judged c (slot_at t i) payload ≡ accepted →
+      (i : ℕ) → place_of slots t socket ≡ Some i → judged c (slot_at t i) payload ≡ accepted →
       data_applied slots c t socket payload ≡ acceptance (with_slot t i (stored c payload (slot_at t i)))
   data-stores i e j = at_slot i e accepted j
 
   -- LAW: and another is refused by its number
   pub data-denied :
-      (i n : ℕ) → place_of slots t socket ≡ At i → judged c (slot_at t i) payload ≡ refused n →
+      (i n : ℕ) → place_of slots t socket ≡ Some i → judged c (slot_at t i) payload ≡ refused n →
       data_applied slots c t socket payload ≡ refusal t n
   data-denied i n e j = at_slot i e (refused n) j
 
   -- LAW: the row is read back with the packet's values
   pub data-row :
-      Bytes t → Bytes payload → (i : ℕ) → place_of slots t socket ≡ At i → judged c (slot_at t i) payload ≡ accepted →
+      Bytes t → Bytes payload → (i : ℕ) → place_of slots t socket ≡ Some i → judged c (slot_at t i) payload ≡ accepted →
       slot_at (data_applied slots c t socket payload).table i ≡ stored c payload (slot_at t i)
   data-row b h i e j =
       ap (λ (x : Effect). slot_at x.table i) (data-stores i e j)
@@ -167,22 +166,22 @@ module _ (slots : ℕ) (c t : List ℕ) (socket : ℕ) (payload : List ℕ) wher
   pub data-accepted : (data_applied slots c t socket payload).verdict ≡ accepted → Accepted slots c t socket payload
   data-accepted a = go (place_of slots t socket) refl
     where
-      at : (i : ℕ) → place_of slots t socket ≡ At i → (v : Verdict) → judged c (slot_at t i) payload ≡ v → Accepted slots c t socket payload
+      at : (i : ℕ) → place_of slots t socket ≡ Some i → (v : Verdict) → judged c (slot_at t i) payload ≡ v → Accepted slots c t socket payload
       at i e accepted j = record { index = i; place = e; fits = j; result = ap (λ (x : Effect). x.table) (data-stores i e j) }
       at i e (refused n) j = never (sym (ap is_accepted (sym (ap (λ (x : Effect). x.verdict) (data-denied i n e j)) ∙ a)))
 
-      go : (p : Place) → place_of slots t socket ≡ p → Accepted slots c t socket payload
-      go (At i) e = at i e (judged c (slot_at t i) payload) refl
-      go Nowhere e = never (sym (ap is_accepted (sym (ap (λ (x : Effect). x.verdict) (data-none e)) ∙ a)))
+      go : (p : Option ℕ) → place_of slots t socket ≡ p → Accepted slots c t socket payload
+      go (Some i) e = at i e (judged c (slot_at t i) payload) refl
+      go None e = never (sym (ap is_accepted (sym (ap (λ (x : Effect). x.verdict) (data-none e)) ∙ a)))
 
   -- LAW: in a lawful table all rows are rows, so that 9 does not arise
   pub applied-lawful :
       (sockets : ℕ) → lawful slots sockets c t ≡ true → applied slots c t socket payload ≡ data_applied slots c t socket payload
   applied-lawful sockets h = go (place_of slots t socket) refl
     where
-      go : (p : Place) → place_of slots t socket ≡ p → applied_at t effect p ≡ effect
-      go (At i) e = rw ((lawful-means slots sockets c t h).each_row i (place_found slots t socket i e).1)
-      go Nowhere e = refl
+      go : (p : Option ℕ) → place_of slots t socket ≡ p → applied_at t effect p ≡ effect
+      go (Some i) e = rw ((lawful-means slots sockets c t h).each_row i (place_found slots t socket i e).1)
+      go None e = refl
 
   -- LAW: a data packet keeps a lawful table lawful
   pub data-lawful :

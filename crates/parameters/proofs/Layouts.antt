@@ -11,7 +11,7 @@ use lib.Dec.{eqb}
 use borrow.Author.Tests.{lt-ltb, le-ltb}
 use Rattle.wire.proofs.Chains.{every-same}
 use Rattle.catalogue.specs.Format.{kind_int, kind_float}
-use Rattle.catalogue.specs.Lookup.{parameter_of}
+use Rattle.catalogue.specs.Lookup.{parameter_of, is_readable, kind_in}
 use Rattle.slot.specs.Slot.{param_count}
 use Rattle.slot.specs.declared.Slot.{Slot}
 use Rattle.table.specs.Change.{refused}
@@ -66,7 +66,7 @@ width-order y z kind l g = rw (lt-ltb y long_int_year l, le-ltb z long_int_year 
 -- a payload that is as long as another row asks
 laid-out-17 :
     (c : List ℕ) (s u : Slot) (map : ℕ) (values : ℕ → ℕ) → map < 2 ^ 32 →
-    ((q : ℕ) → q < param_count → named map q ≡ true → (parameter_of c s.device q).readable ≡ true) →
+    ((q : ℕ) → q < param_count → named map q ≡ true → is_readable (parameter_of c s.device q) ≡ true) →
     size_of c u map ≢ size_of c s map → judged c s (payload_of c u map values) ≡ refused 17
 laid-out-17 c s u map values m r n =
     let e = map_back c u map values m in
@@ -79,11 +79,11 @@ laid-out-17 c s u map values m r n =
 -- s is the row of an old device, u that of a new one; each parameter that the map names is readable, and one is an INT
 module _
     (c : List ℕ) (s u : Slot) (d : u.device ≡ s.device) (old : s.year < long_int_year) (new : long_int_year ≤ u.year) (map : ℕ)
-    (r : (q : ℕ) → q < param_count → named map q ≡ true → (parameter_of c s.device q).readable ≡ true) (p : ℕ) (l : p < param_count)
-    (n : named map p ≡ true) (k : (parameter_of c s.device p).kind ≡ kind_int)
+    (r : (q : ℕ) → q < param_count → named map q ≡ true → is_readable (parameter_of c s.device q) ≡ true) (p : ℕ) (l : p < param_count)
+    (n : named map p ≡ true) (k : (kind_in (parameter_of c s.device p)) ≡ kind_int)
   where
     span-order : (q : ℕ) (b : Bool) → span_if c s q b ≤ span_if c u q b
-    span-order q true = rw d (width-order s.year u.year (parameter_of c s.device q).kind old new)
+    span-order q true = rw d (width-order s.year u.year (kind_in (parameter_of c s.device q)) old new)
     span-order q false = omega arith
 
     offset-order : (q : ℕ) → offset_of c s map q ≤ offset_of c u map q
@@ -114,4 +114,4 @@ module _
     -- LAW: and one in two bytes for the new one
     pub short-refused : (values : ℕ → ℕ) → map < 2 ^ 32 → judged c u (payload_of c s map values) ≡ refused 17
     short-refused values m =
-        laid-out-17 c u s map values m (λ q g i. ap (λ (x : ℕ). (parameter_of c x q).readable) d ∙ r q g i) (λ e. omega (arith, sizes, e))
+        laid-out-17 c u s map values m (λ q g i. ap (λ (x : ℕ). (is_readable (parameter_of c x q))) d ∙ r q g i) (λ e. omega (arith, sizes, e))

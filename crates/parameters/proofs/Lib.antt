@@ -1,7 +1,6 @@
 pub mod Steps
 pub mod Widths
 pub mod Walks
-pub mod Rests
 pub mod ByBytes
 pub mod Stores
 pub mod Values

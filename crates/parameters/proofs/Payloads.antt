@@ -12,7 +12,7 @@ use lib.Seq.{take_at, drop_at, take-add, take_all}
 use Rattle.wire.specs.Number.{le_value, le_bytes, number_at, Bytes}
 use Rattle.wire.proofs.Numbers.{length-le_bytes, value-of-bytes}
 use Rattle.catalogue.specs.Format.{kind_bool}
-use Rattle.catalogue.specs.Lookup.{parameter_of}
+use Rattle.catalogue.specs.Lookup.{parameter_of, is_readable, kind_in}
 use Rattle.slot.specs.Slot.{param_count}
 use Rattle.slot.specs.declared.Slot.{Slot}
 use Rattle.slot.proofs.Filling.{number-bytes, number_small}
@@ -106,9 +106,9 @@ module _ (c : List ℕ) (s : Slot) (map : ℕ) (values : ℕ → ℕ) where
 
   -- LAW: it fits the device where each named parameter is readable, its bytes carry each value and each flag is 0 or 1
   pub layout-judged :
-      map < 2 ^ 32 → ((p : ℕ) → p < param_count → named map p ≡ true → (parameter_of c s.device p).readable ≡ true) →
+      map < 2 ^ 32 → ((p : ℕ) → p < param_count → named map p ≡ true → is_readable (parameter_of c s.device p) ≡ true) →
       ((p : ℕ) → p < param_count → named map p ≡ true → Carried (width_of c s p) (values p)) →
-      ((p : ℕ) → p < param_count → named map p ≡ true → (parameter_of c s.device p).kind ≡ kind_bool → values p ≤ 1) →
+      ((p : ℕ) → p < param_count → named map p ≡ true → kind_in (parameter_of c s.device p) ≡ kind_bool → values p ≤ 1) →
       Judged c s (payload_of c s map values)
   layout-judged h readable fit flag =
       let e = map_back h in
@@ -130,7 +130,7 @@ offset-most c s map zero = (omega arith, omega arith)
 offset-most c s map (suc n) = let k = offset-most c s map n in let g = go (named map n) in (omega (arith, k.0), omega (arith, k.1, g))
   where
     go : (b : Bool) → span_if c s n b ≤ long_width
-    go true = width-most s.year (parameter_of c s.device n).kind
+    go true = width-most s.year (kind_in (parameter_of c s.device n))
     go false = omega arith
 
 module _ (c : List ℕ) (s : Slot) (payload : List ℕ) (j : judged c s payload ≡ accepted) where

@@ -3,7 +3,7 @@ use Prim.Native.Nat.{ℕ, zero, suc, ◌<◌, ◌^◌}
 use mathlib.Core.Bool.{Bool, true, false}
 use mathlib.Core.List.{List}
 use Rattle.wire.specs.Number.{number_at, Bytes}
-use Rattle.catalogue.specs.Lookup.{parameter_of}
+use Rattle.catalogue.specs.Lookup.{parameter_of, kind_in}
 use Rattle.slot.specs.Slot.{param_count, Fits}
 use Rattle.slot.specs.declared.Slot.{Slot}
 use Rattle.slot.proofs.Filling.{number_small}
@@ -25,7 +25,7 @@ module _ (c payload : List ℕ) (s : Slot) (h : Bytes payload) (f : Fits s) wher
   fits-to zero = f
   fits-to (suc n) =
       store-fits (named (map_of payload) n) (stored_to c s (map_of payload) payload n) n (value_in c s (map_of payload) payload n) (fits-to n)
-      (value-small s.year (parameter_of c s.device n).kind payload (offset_of c s (map_of payload) n) h)
+      (value-small s.year (kind_in (parameter_of c s.device n)) payload (offset_of c s (map_of payload) n) h)
 
   -- LAW: a packet of bytes leaves a row whose fields have their types
   pub data-fits : Fits (stored c payload s)

@@ -9,6 +9,7 @@ use lib.Dec.{eqb}
 use lib.ListN.{length, take, drop, take-append-drop}
 use borrow.Rule.Slice.PartMut.{mid_of, put_mid}
 use borrow.Author.Tests.{eqb-true}
+use Rattle.std.specs.Prelude.{Option, Some, None}
 use Rattle.wire.proofs.Buffers.{put-part}
 use Rattle.wire.proofs.Chains.{and_left}
 use Rattle.slot.specs.Slot.{param_count, with_value, Fits}
@@ -19,8 +20,6 @@ use Rattle.slot.proofs.Rows.{length-slot, slot-here}
 use Rattle.slot.proofs.Values.{held-value, value-fits}
 use Rattle.table.specs.Places.{place_of, row_at}
 use Rattle.table.specs.Change.{accepted, refused, Effect, refusal, acceptance, Change, becomes, denied, changed_at}
-use Rattle.table.specs.declared.Place.{Place}
-use Rattle.table.specs.declared.Place.TheVariants.{At, Nowhere}
 use Rattle.table.proofs.Searches.{holds_parts, place_found, taken-within}
 use Rattle.parameters.specs.Data.{map_of, named, value_in, judged, stored_to, data_change, row_after, changed_row, applied_at, applied}
 use Rattle.parameters.proofs.Steps.{stored-named, stored-unnamed}
@@ -36,9 +35,6 @@ pub record StoredTo (c : List ℕ) (s : Slot) (map : ℕ) (payload row : List �
   pub fits : Fits (stored_to c s map payload p)
 
 module _ (c : List ℕ) (s : Slot) (map : ℕ) (payload : List ℕ) {row : List ℕ} {p : ℕ} (h : StoredTo c s map payload row p) where
-  pub stored-length : length row ≡ slot_size
-  stored-length = ap length h.bytes ∙ length-slot (stored_to c s map payload p)
-
   -- a named parameter's value is put
   pub store-value :
       {new : List ℕ} (v : ℕ) → named map p ≡ true → p < param_count → v ≡ value_in c s map payload p → v < 256 ^ 4 →
@@ -73,7 +69,7 @@ module _ (c row payload : List ℕ) where
   changed-refused r j = rw (r, j)
 
 -- a socket's row lies within the table
-pub place-within : (slots : ℕ) (t : List ℕ) (socket i : ℕ) → place_of slots t socket ≡ At i → slot_size * i + slot_size ≤ length t
+pub place-within : (slots : ℕ) (t : List ℕ) (socket i : ℕ) → place_of slots t socket ≡ Some i → slot_size * i + slot_size ≤ length t
 place-within slots t socket i e = taken-within t i (holds_parts (slot_at t i) socket (place_found slots t socket i e).0).0
 
 module _ (t : List ℕ) (i : ℕ) where
@@ -94,7 +90,7 @@ module _ (t : List ℕ) (i : ℕ) where
   around e = record { verdict = e.verdict; table = with e.table }
 
   around-change :
-      slot_size * i + slot_size ≤ length t → (x : Change) → around (row_after (row_in t i) x) ≡ changed_at t (At i) x
+      slot_size * i + slot_size ≤ length t → (x : Change) → around (row_after (row_in t i) x) ≡ changed_at t (Some i) x
   around-change h (becomes s) =
       let n = length-slot s in
       let m : from + length (slot_bytes s) - from ≡ from + slot_size - from = omega (arith, n) in
@@ -104,19 +100,19 @@ module _ (t : List ℕ) (i : ℕ) where
   around-row :
       (c payload : List ℕ) → slot_size * i + slot_size ≤ length t →
       around (changed_row c (row_in t i) payload) ≡
-      cond (is_row (row_in t i)) (changed_at t (At i) (data_change c (some (slot_of (row_in t i))) payload)) (refusal t 9)
+      cond (is_row (row_in t i)) (changed_at t (Some i) (data_change c (some (slot_of (row_in t i))) payload)) (refusal t 9)
   around-row c payload h = go (is_row (row_in t i))
     where
       go :
           (b : Bool) →
           around (cond b (row_after (row_in t i) (data_change c (some (slot_of (row_in t i))) payload)) (refusal (row_in t i) 9)) ≡
-          cond b (changed_at t (At i) (data_change c (some (slot_of (row_in t i))) payload)) (refusal t 9)
+          cond b (changed_at t (Some i) (data_change c (some (slot_of (row_in t i))) payload)) (refusal t 9)
       go true = around-change h (data_change c (some (slot_of (row_in t i))) payload)
       go false = ap (λ (u : List ℕ). refusal u 9) part-kept
 
   -- the socket's row changed in place is the change of the table
   pub part-changed :
-      (slots : ℕ) (c payload : List ℕ) (socket : ℕ) (e : Effect) → place_of slots t socket ≡ At i →
+      (slots : ℕ) (c payload : List ℕ) (socket : ℕ) (e : Effect) → place_of slots t socket ≡ Some i →
       e ≡ changed_row c (mid_of (slot_size * i) (slot_size * i + slot_size - slot_size * i) t) payload →
       record {
         verdict = e.verdict;
@@ -127,11 +123,11 @@ module _ (t : List ℕ) (i : ℕ) where
       let n : from + slot_size - from ≡ slot_size = omega arith in
       ap around (q ∙ ap (λ k. changed_row c (mid_of from k t) payload) n)
       ∙ around-row c payload h
-      ∙ ap (λ (s : Slot). cond (is_row (row_in t i)) (changed_at t (At i) (data_change c (some s) payload)) (refusal t 9)) (sym (slot-here t i h))
-      ∙ sym (ap (λ (z : Place). applied_at t (changed_at t z (data_change c (row_at t z) payload)) z) p)
+      ∙ ap (λ (s : Slot). cond (is_row (row_in t i)) (changed_at t (Some i) (data_change c (some s) payload)) (refusal t 9)) (sym (slot-here t i h))
+      ∙ sym (ap (λ (z : Option ℕ). applied_at t (changed_at t z (data_change c (row_at t z) payload)) z) p)
 
 -- a socket without a device
 pub nowhere-changed :
-    (slots : ℕ) (c t payload : List ℕ) (socket : ℕ) → place_of slots t socket ≡ Nowhere → refusal t 15 ≡ applied slots c t socket payload
+    (slots : ℕ) (c t payload : List ℕ) (socket : ℕ) → place_of slots t socket ≡ None → refusal t 15 ≡ applied slots c t socket payload
 nowhere-changed slots c t payload socket e =
-    sym (ap (λ (z : Place). applied_at t (changed_at t z (data_change c (row_at t z) payload)) z) e)
+    sym (ap (λ (z : Option ℕ). applied_at t (changed_at t z (data_change c (row_at t z) payload)) z) e)

@@ -1,10 +1,10 @@
--- One step of each definition that a loop follows, with the map's bits taken from below.
-use Prim.Native.Nat.{ℕ, ◌+◌, ◌/◌, ◌^◌}
-use mathlib.Core.Path.{◌≡◌, sym}
+-- One step of each definition that a loop follows.
+use Prim.Native.Nat.{ℕ, ◌+◌}
+use mathlib.Core.Path.{◌≡◌}
 use mathlib.Core.Bool.{true, false}
 use mathlib.Core.List.{List}
 use native.Mathlib.Numerals.{add-one}
-use native.Mathlib.Nat.{add-zero, div-one, div-div-eq-div-mul, pow-succ', mul_comm}
+use native.Mathlib.Nat.{add-zero}
 use native.Mathlib.Omega.{arith}
 use lib.ListN.{get_or}
 use Rattle.wire.specs.Number.{number_at}
@@ -12,12 +12,6 @@ use Rattle.wire.proofs.Numbers.{number_step}
 use Rattle.slot.specs.Slot.{with_value}
 use Rattle.slot.specs.declared.Slot.{Slot}
 use Rattle.parameters.specs.Data.{named, width_of, span_if, offset_of, value_in, store_if, stored_to}
-
-pub rest-none : (map : ℕ) → map ≡ map / 2 ^ 0
-rest-none map = sym (div-one map)
-
-pub rest_more : (map p : ℕ) → map / 2 ^ (p + 1) ≡ map / 2 ^ p / 2
-rest_more map p = rw (add-one p, pow-succ' 2 p, div-div-eq-div-mul map (2 ^ p) 2, mul_comm (2 ^ p) 2)
 
 offset-more : (c : List ℕ) (s : Slot) (map p : ℕ) → offset_of c s map (p + 1) ≡ offset_of c s map p + span_if c s p (named map p)
 unfolding offset_of

@@ -1,74 +1,73 @@
--- Where a loop over the set bits of a map stands.
-use Prim.Native.Nat.{ℕ, ◌+◌, ◌*◌, ◌/◌, ◌%◌, ◌^◌, ◌≤◌, ◌<◌}
-use mathlib.Core.Path.{◌≡◌, refl, ap, ◌∙◌}
-use mathlib.Core.Bool.{true, false}
+-- A loop over the parameters of a map: where the next value starts, and that no parameter behind the last set bit is named. There
+-- what each definition says of all parameters is what it says of the first p.
+use Prim.Native.Nat.{ℕ, zero, suc, ◌+◌, ◌-◌, ◌/◌, ◌^◌, ◌≤◌, ◌<◌}
+use mathlib.Core.Path.{◌≡◌, refl, sym, ◌∙◌}
+use mathlib.Core.Bool.{Bool, true, false}
 use mathlib.Core.List.{List}
 use mathlib.Core.Logic.{⊎_elim}
-use native.Mathlib.Nat.{div-eq_of_lt, eq-or-lt_of_le}
+use native.Mathlib.Numerals.{add-one}
+use native.Mathlib.Nat.{div-eq_of_lt, eq-or-lt_of_le, pow-le-pow_right}
 use native.Mathlib.Omega.{arith}
-use borrow.Author.Tests.{eq-eqb, ne_eqb}
-use Rattle.catalogue.specs.Lookup.{parameter_of}
+use Rattle.std.specs.Int.Count.{count_leading_zeros}
+use Rattle.std.proofs.lemmas.Nat.{leading_length}
+use Rattle.wire.proofs.Chains.{every_more}
+use Rattle.wire.specs.Every.{every}
 use Rattle.slot.specs.Slot.{param_count}
 use Rattle.slot.specs.declared.Slot.{Slot}
-use Rattle.parameters.specs.Data.{map_bytes, named, long_width, width_of, offset_of}
-use Rattle.parameters.proofs.Steps.{rest-none, rest_more, offset-named, offset-unnamed}
-use Rattle.parameters.proofs.Widths.{width-most}
+use Rattle.parameters.specs.Data.{named, width_of, readable_if, all_readable, flag_if, all_flags, value_in, offset_of, stored_to}
+use Rattle.parameters.proofs.Steps.{offset-named, offset-unnamed, stored-unnamed}
 
--- before parameter p: `rest` is the map without the bits below p
-pub record Bits (map rest p : ℕ) : Type 0 where
-  pub most : p ≤ param_count
-  pub rest-is : rest ≡ map / 2 ^ p
+-- the bits of a map up to its highest set one
+pub bits-are : (map n : ℕ) → map < 2 ^ 32 → n ≡ 32 - count_leading_zeros 32 map → (map < 2 ^ n) × (n ≤ param_count)
+bits-are map n h e =
+    let l = leading_length 32 map h in
+    let same : n ≡ l.0 = omega (arith, e, l.1) in
+    (rw same l.2, omega (arith, e))
 
-pub bits_none : (map : ℕ) → Bits map map 0
-bits_none map = record { most = omega arith; rest-is = rest-none map }
+-- past a parameter that the map names, and past another
+module _ (c : List ℕ) (s : Slot) (map p : ℕ) {at next : ℕ} (a : at ≡ offset_of c s map p) where
+  pub walk-named : {w : ℕ} → named map p ≡ true → w ≡ width_of c s p → next ≡ at + w → next ≡ offset_of c s map (p + 1)
+  walk-named n e q = rw (offset-named c s map p n, ← a, ← e) q
 
-module _ {map rest p : ℕ} (h : Bits map rest p) where
-  -- a bit is left, so that p is one of the 32
-  pub bits_below : map < 2 ^ param_count → 0 < rest → p < param_count
-  bits_below m r =
-      ⊎_elim
-      (λ (s : p ≡ param_count).
-      let z : map / 2 ^ param_count ≡ 0 = div-eq_of_lt m in
-      let y : rest ≡ 0 = h.rest-is ∙ ap (λ (q : ℕ). map / 2 ^ q) s ∙ z in
-      absurd (omega arith))
-      (λ (l : p < param_count). l)
-      (eq-or-lt_of_le h.most)
+  pub walk-unnamed : named map p ≡ false → next ≡ at → next ≡ offset_of c s map (p + 1)
+  walk-unnamed n q = rw (offset-unnamed c s map p n) (q ∙ a)
 
-  -- whether p is named is the lowest bit of the rest
-  pub bits-named : rest % 2 ≡ 1 → named map p ≡ true
-  bits-named b = rw (← h.rest-is) (eq-eqb _ _ b)
+-- what holds at p and goes from each index to the next holds from p on
+from_on : (P : ℕ → Type 0) (p : ℕ) → P p → ((q : ℕ) → p ≤ q → P q → P (q + 1)) → (n : ℕ) → p ≤ n → P n
+from_on P p first step zero h = let e : 0 ≡ p = omega arith in rw e first
+from_on P p first step (suc n) h =
+    ⊎_elim
+    (λ (e : p ≡ suc n). rw (← e) first)
+    (λ (l : p < suc n). rw (← add-one n) (step n (omega arith) (from_on P p first step n (omega arith))))
+    (eq-or-lt_of_le h)
 
-  pub bits-unnamed : (rest % 2 ≡ 1 → ⊥) → named map p ≡ false
-  bits-unnamed b = rw (← h.rest-is) (ne_eqb _ _ b)
+module _ (map p : ℕ) (m : map < 2 ^ p) (most : p ≤ param_count) where
+  unnamed : (q : ℕ) → p ≤ q → named map q ≡ false
+  unnamed q l =
+      let power : 2 ^ p ≤ 2 ^ q = pow-le-pow_right (omega arith) l in
+      let none : map / 2 ^ q ≡ 0 = div-eq_of_lt (omega (arith, m, power)) in
+      rw none
 
-  pub bits-next : p < param_count → Bits map (rest / 2) (p + 1)
-  bits-next l = record { most = omega arith; rest-is = rw (rest_more map p, ← h.rest-is) }
+  pub offset-rest : (c : List ℕ) (s : Slot) → offset_of c s map param_count ≡ offset_of c s map p
+  offset-rest c s =
+      from_on (λ q. offset_of c s map q ≡ offset_of c s map p) p refl (λ q l i. offset-unnamed c s map q (unnamed q l) ∙ i) param_count most
 
--- the same, and `at` is where the value of p starts
-pub record Walk (c : List ℕ) (s : Slot) (map rest at p : ℕ) : Type 0 where
-  pub bits : Bits map rest p
-  pub at-is : at ≡ offset_of c s map p
-  pub at-most : at ≤ map_bytes + long_width * p
+  pub stored-rest : (c : List ℕ) (s : Slot) (payload : List ℕ) → stored_to c s map payload param_count ≡ stored_to c s map payload p
+  stored-rest c s payload =
+      from_on (λ q. stored_to c s map payload q ≡ stored_to c s map payload p) p refl
+      (λ q l i. stored-unnamed c s map q payload (unnamed q l) ∙ i) param_count most
 
-pub walk_none : (c : List ℕ) (s : Slot) (map : ℕ) → Walk c s map map map_bytes 0
-unfolding offset_of
-walk_none c s map = record { bits = bits_none map; at-is = refl; at-most = omega arith }
+  -- a test that holds where no parameter is named
+  every_rest : (test : ℕ → Bool) → ((q : ℕ) → named map q ≡ false → test q ≡ true) → every p test ≡ true → true ≡ every param_count test
+  every_rest test t i = sym (from_on (λ q. every q test ≡ true) p i (λ q l k. every_more q test k (t q (unnamed q l))) param_count most)
 
-module _ {c : List ℕ} {s : Slot} {map rest at p : ℕ} (h : Walk c s map rest at p) (l : p < param_count) where
-  -- past a parameter that the map names
-  pub walk-named : {w next : ℕ} → rest % 2 ≡ 1 → w ≡ width_of c s p → next ≡ at + w → Walk c s map (rest / 2) next (p + 1)
-  walk-named {w} {next} b e n =
-      record {
-        bits = bits-next h.bits l;
-        at-is = rw (offset-named c s map p (bits-named h.bits b), ← h.at-is, ← e) n;
-        at-most = omega (arith, h.at-most, e, width-most s.year (parameter_of c s.device p).kind);
-      }
+  pub readables-rest :
+      (c : List ℕ) (s : Slot) → every p (λ q. readable_if c s q (named map q)) ≡ true → true ≡ all_readable c s map
+  unfolding all_readable
+  readables-rest c s = every_rest (λ q. readable_if c s q (named map q)) (λ q n. rw n)
 
-  -- past another
-  pub walk-unnamed : {next : ℕ} → (rest % 2 ≡ 1 → ⊥) → next ≡ at → Walk c s map (rest / 2) next (p + 1)
-  walk-unnamed {next} b n =
-      record {
-        bits = bits-next h.bits l;
-        at-is = rw (offset-unnamed c s map p (bits-unnamed h.bits b)) (n ∙ h.at-is);
-        at-most = omega (arith, h.at-most);
-      }
+  pub flags-rest :
+      (c : List ℕ) (s : Slot) (payload : List ℕ) →
+      every p (λ q. flag_if c s q (named map q) (value_in c s map payload q)) ≡ true → true ≡ all_flags c s map payload
+  unfolding all_flags
+  flags-rest c s payload = every_rest (λ q. flag_if c s q (named map q) (value_in c s map payload q)) (λ q n. rw n)

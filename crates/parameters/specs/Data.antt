@@ -1,11 +1,12 @@
 -- DEVICE_DATA ("Data payloads are a 32-bit map .., then the values"; "DEVICE_DATA replaces the named values and no others"),
 -- said of the socket's row; the layout of a payload goes by that row.
-use Rattle.std.specs.Prelude.{ℕ, zero, suc, ◌+◌, ◌/◌, ◌%◌, ◌^◌, Bool, ◌&&◌, ◌||◌, not, cond, List, ltb, leb, eqb, length}
-use Rattle.std.proofs.Math.Option.{Option, none, some}
+use Rattle.std.specs.Prelude.{ℕ, zero, suc, ◌+◌, ◌/◌, ◌%◌, ◌^◌, Bool, ◌&&◌, ◌||◌, not, cond, List, ltb, leb, eqb, length, Option, Some, None}
+use Rattle.std.proofs.Math.Option as option
+use Rattle.std.proofs.Math.Option.{none, some}
 use Rattle.wire.specs.Every.{every}
 use Rattle.wire.specs.Number.{number_at}
 use Rattle.catalogue.specs.Format.{kind_int, kind_float, kind_bool}
-use Rattle.catalogue.specs.Lookup.{parameter_of}
+use Rattle.catalogue.specs.Lookup.{parameter_of, is_readable, kind_in}
 use Rattle.value.specs.Meaning.{extended}
 use Rattle.slot.specs.Slot.{param_count, with_value}
 use Rattle.slot.specs.Row.{slot_of, slot_bytes, is_row}
@@ -13,8 +14,6 @@ use Rattle.slot.specs.Rows.{row_in}
 use Rattle.slot.specs.declared.Slot.{Slot}
 use Rattle.table.specs.Places.{place_of, row_of}
 use Rattle.table.specs.Change.{Verdict, accepted, refused, Effect, refusal, acceptance, Change, becomes, denied, changed_at}
-use Rattle.table.specs.declared.Place.{Place}
-use Rattle.table.specs.declared.Place.TheVariants.{At, Nowhere}
 
 -- "a 32-bit map, low byte first"
 abbrev pub map_bytes : ℕ
@@ -55,7 +54,7 @@ width year kind =
 
 -- "Width goes by the seated year": that of parameter p in a packet of this row's device
 abbrev pub width_of : List ℕ → Slot → ℕ → ℕ
-width_of c s p = width s.year (parameter_of c s.device p).kind
+width_of c s p = width s.year (kind_in (parameter_of c s.device p))
 
 -- a value is there where its bit is set
 abbrev pub span_if : List ℕ → Slot → ℕ → Bool → ℕ
@@ -80,7 +79,7 @@ value_in c s map payload p = value_at (width_of c s p) payload (offset_of c s ma
 
 -- 16, "a set bit has no readable parameter"
 abbrev pub readable_if : List ℕ → Slot → ℕ → Bool → Bool
-readable_if c s p is_named = not is_named || (parameter_of c s.device p).readable
+readable_if c s p is_named = not is_named || is_readable (parameter_of c s.device p)
 
 -- 16 is judged over all set bits
 unfoldable pub all_readable : List ℕ → Slot → ℕ → Bool
@@ -92,7 +91,7 @@ size_of c s map = offset_of c s map param_count
 
 -- 18, "BOOL neither 0 nor 1"
 abbrev pub flag_if : List ℕ → Slot → ℕ → Bool → ℕ → Bool
-flag_if c s p is_named bits = not (is_named && eqb (parameter_of c s.device p).kind kind_bool) || leb bits 1
+flag_if c s p is_named bits = not (is_named && eqb (kind_in (parameter_of c s.device p)) kind_bool) || leb bits 1
 
 -- 18 is judged over all set bits
 unfoldable pub all_flags : List ℕ → Slot → ℕ → List ℕ → Bool
@@ -126,7 +125,7 @@ becomes_if accepted s = becomes s
 becomes_if (refused number) s = denied number
 
 -- what DEVICE_DATA asks for the socket's row, if it has one; 15, "socket has no guest"
-abbrev pub data_change : List ℕ → Option Slot → List ℕ → Change
+abbrev pub data_change : List ℕ → option.Option Slot → List ℕ → Change
 data_change c (some s) payload = becomes_if (judged c s payload) (stored c payload s)
 data_change c none payload = denied 15
 
@@ -144,9 +143,9 @@ abbrev pub changed_row : List ℕ → List ℕ → List ℕ → Effect
 changed_row c row payload = cond (is_row row) (row_after row (data_change c (some (slot_of row)) payload)) (refusal row 9)
 
 -- at a place: 9 where its bytes are no row
-abbrev pub applied_at : List ℕ → Effect → Place → Effect
-applied_at t e (At i) = cond (is_row (row_in t i)) e (refusal t 9)
-applied_at t e Nowhere = e
+abbrev pub applied_at : List ℕ → Effect → Option ℕ → Effect
+applied_at t e (Some i) = cond (is_row (row_in t i)) e (refusal t 9)
+applied_at t e None = e
 
 -- the table after DEVICE_DATA, whatever its bytes are
 abbrev pub applied : ℕ → List ℕ → List ℕ → ℕ → List ℕ → Effect

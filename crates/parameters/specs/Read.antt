@@ -1,15 +1,15 @@
 -- One parameter, "absent or a value"; a held value is "one of a whole number, a single float or a flag".
-use Rattle.std.specs.Prelude.{ℕ, ◌&&◌, cond, List, ltb}
-use Rattle.std.proofs.Math.Option.{Option, none, some}
-use Rattle.catalogue.specs.Lookup.{parameter_of}
+use Rattle.std.specs.Prelude.{ℕ, ◌&&◌, cond, List, ltb, Option, Some, None, Result, Ok, Err}
+use Rattle.std.proofs.Math.Option as option
+use Rattle.std.proofs.Math.Option.{none, some}
+use Rattle.errors.specs.Number.{number_of}
+use Rattle.errors.specs.declared.Error.{Error}
+use Rattle.catalogue.specs.Lookup.{parameter_of, kind_in}
 use Rattle.value.specs.Meaning.{Meaning, meaning_of, meant}
 use Rattle.slot.specs.Slot.{param_count, present_at, bits_at}
 use Rattle.slot.specs.declared.Slot.{Slot}
 use Rattle.table.specs.Places.{row_of}
-use Rattle.parameters.specs.declared.Content.{Content}
-use Rattle.parameters.specs.declared.Content.TheVariants.{Held, Absent}
-use Rattle.parameters.specs.declared.Reading.{Reading}
-use Rattle.parameters.specs.declared.Reading.TheVariants.{Found, Refused}
+use Rattle.value.specs.declared.Value.{Value}
 
 -- what reading one parameter finds: a value, none, or the number of the refusal
 pub data Finding : Type 0 where
@@ -17,23 +17,23 @@ pub data Finding : Type 0 where
   absent : Finding
   refused : (number : ℕ) → Finding
 
--- the value, or none, for each case of a content
-abbrev pub held_of : Content → Finding
-held_of (Held v) = held (meaning_of v)
-held_of Absent = absent
+-- the value, or none, for each case of what a slot holds
+abbrev pub held_of : Option Value → Finding
+held_of (Some v) = held (meaning_of v)
+held_of None = absent
 
--- the number or the value for each case of the answer
-abbrev pub finding_of : Reading → Finding
-finding_of (Found content) = held_of content
-finding_of (Refused number) = refused number
+-- the value, none, or the number of the refusal for each case of the answer
+abbrev pub finding_of : Result (Option Value) Error → Finding
+finding_of (Ok content) = held_of content
+finding_of (Err e) = refused (number_of e)
 
 -- the held value by its parameter's kind; absent where none is held or there is no such parameter
 unfoldable pub content_of : List ℕ → Slot → ℕ → Finding
 content_of c s index =
-    cond (ltb index param_count && present_at s index) (held (meant (parameter_of c s.device index).kind (bits_at s index))) absent
+    cond (ltb index param_count && present_at s index) (held (meant (kind_in (parameter_of c s.device index)) (bits_at s index))) absent
 
 -- of the socket's row, if it has one; 15, "socket has no guest"
-abbrev pub finding : List ℕ → Option Slot → ℕ → Finding
+abbrev pub finding : List ℕ → option.Option Slot → ℕ → Finding
 finding c (some s) index = content_of c s index
 finding c none index = refused 15
 

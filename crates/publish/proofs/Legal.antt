@@ -5,6 +5,7 @@ use mathlib.Core.Bool.{Bool, true, false}
 use mathlib.Core.List.{List, ◌++◌}
 use native.Mathlib.Omega.{arith}
 use lib.ListN.{length, drop}
+use Rattle.std.specs.Prelude.{Option, Some, None}
 use Rattle.wire.specs.Area.{over}
 use Rattle.wire.specs.Number.{Bytes}
 use Rattle.wire.proofs.Numbers.{le_bytes-bytes}
@@ -13,15 +14,13 @@ use Rattle.list.specs.Bytes.{list_bytes}
 use Rattle.list.specs.Legal.{LegalElements, Legal}
 use Rattle.list.specs.Parse.{parse, good}
 use Rattle.list.proofs.Complete.{complete}
-use Rattle.catalogue.specs.Lookup.{parameter_of}
+use Rattle.catalogue.specs.Lookup.{parameter_of, kind_in}
 use Rattle.slot.specs.Slot.{param_count, present_at, bits_at, Fits}
 use Rattle.slot.specs.Row.{uid_size}
 use Rattle.slot.specs.Rows.{slot_at}
 use Rattle.slot.specs.declared.Slot.{Slot}
 use Rattle.slot.proofs.Rows.{slot-fits}
 use Rattle.table.specs.Places.{slot_count, socket_count, place_of, row_at}
-use Rattle.table.specs.declared.Place.{Place}
-use Rattle.table.specs.declared.Place.TheVariants.{At, Nowhere}
 use Rattle.publish.specs.Published.{element_of, held_value, pair, list_if, parameters_from, device_row, row_before, devices_from, published}
 use Rattle.publish.proofs.Values.{element-legal}
 use Rattle.publish.proofs.Size.{published-size}
@@ -35,7 +34,7 @@ parameters-legal (suc n) c s p f h = go (present_at s p) (parameters-legal n c s
         (b : Bool) → LegalElements (depth_limit - 2) (parameters_from n c s (p + 1)) →
         LegalElements (depth_limit - 2) (list_if b (pair p (element_of (held_value c s p))) (parameters_from n c s (p + 1)))
     go false l = l
-    go true l = ((omega arith, (element-legal (parameter_of c s.device p).kind (bits_at s p) (f.word_small p), tt)), l)
+    go true l = ((omega arith, (element-legal (kind_in (parameter_of c s.device p)) (bits_at s p) (f.word_small p), tt)), l)
 
 -- LAW: the row of a slot whose fields have their types is legal
 pub row-legal : (c : List ℕ) (s : Slot) → Fits s → LegalElements (depth_limit - 2) (device_row c s)
@@ -49,10 +48,10 @@ devices-legal zero slots c t socket b = tt
 devices-legal (suc n) slots c t socket b = go (place_of slots t socket) (devices-legal n slots c t (socket + 1) b)
   where
     go :
-        (p : Place) → LegalElements (depth_limit - 1) (devices_from n slots c t (socket + 1)) →
+        (p : Option ℕ) → LegalElements (depth_limit - 1) (devices_from n slots c t (socket + 1)) →
         LegalElements (depth_limit - 1) (row_before c (row_at t p) (devices_from n slots c t (socket + 1)))
-    go Nowhere l = l
-    go (At i) l = (row-legal c (slot_at t i) (slot-fits t b i), l)
+    go None l = l
+    go (Some i) l = (row-legal c (slot_at t i) (slot-fits t b i), l)
 
 -- LAW: so are the rows of any table of bytes, whatever its size
 pub rows-legal : (slots sockets : ℕ) (c t : List ℕ) → Bytes t → LegalElements (depth_limit - 1) (published slots sockets c t)

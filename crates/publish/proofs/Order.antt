@@ -4,21 +4,20 @@ use mathlib.Core.Path.{◌≡◌, refl, sym, ap, ◌∙◌}
 use mathlib.Core.Bool.{Bool, true, false, cond}
 use mathlib.Core.List.{List, [], ◌∷◌}
 use mathlib.Core.Option as option
-use mathlib.Core.Option.{Option, some, map}
+use mathlib.Core.Option.{some, map}
 use mathlib.Core.Logic.{◌⊎◌, inl, inr, ⊎_elim}
 use native.Mathlib.Omega.{arith}
 use native.Mathlib.Nat.{eq-or-lt_of_le}
 use lib.Dec.{eqb}
 use lib.ListN.{length}
 use borrow.Author.Tests.{eq-eqb, ne_eqb}
+use Rattle.std.specs.Prelude.{Option, Some, None}
 use Rattle.list.specs.Tree as tree
 use Rattle.list.specs.Tree.{Elements, none, value, list, int, vocab, float, str, blob, count}
 use Rattle.slot.specs.Slot.{param_count, present_at}
 use Rattle.slot.specs.Rows.{slot_at}
 use Rattle.slot.specs.declared.Slot.{Slot}
 use Rattle.table.specs.Places.{place_of, row_at, row_of}
-use Rattle.table.specs.declared.Place.{Place}
-use Rattle.table.specs.declared.Place.TheVariants.{At, Nowhere}
 use Rattle.table.proofs.Searches.{holds_parts, place_found}
 use Rattle.lawful.specs.Lawful.{Lawful}
 use Rattle.lawful.proofs.Keeps.{own-place}
@@ -60,14 +59,14 @@ Rising [] = Unit {0}
 Rising (a ∷ l) = Above a l × Rising l
 
 -- the list among the elements whose first number is this one
-abbrev pub list_of : Elements → ℕ → Option Elements
+abbrev pub list_of : Elements → ℕ → option.Option Elements
 list_of none n = option.none
 list_of (value v es) n = list_of es n
 list_of (list inner es) n = cond (eqb (first_of inner) n) (some inner) (list_of es n)
 
 -- DEVICES
 -- the row that is found for a socket is that socket's
-row-socket : (slots : ℕ) (t : List ℕ) (socket i : ℕ) → place_of slots t socket ≡ At i → (slot_at t i).socket ≡ socket
+row-socket : (slots : ℕ) (t : List ℕ) (socket i : ℕ) → place_of slots t socket ≡ Some i → (slot_at t i).socket ≡ socket
 row-socket slots t socket i e = (holds_parts (slot_at t i) socket (place_found slots t socket i e).0).1
 
 devices-above :
@@ -77,10 +76,10 @@ devices-above zero slots c t socket j h = tt
 devices-above (suc n) slots c t socket j h = go (place_of slots t socket) refl (devices-above n slots c t (socket + 1) j (omega arith))
   where
     go :
-        (p : Place) → place_of slots t socket ≡ p → Above j (firsts (devices_from n slots c t (socket + 1))) →
+        (p : Option ℕ) → place_of slots t socket ≡ p → Above j (firsts (devices_from n slots c t (socket + 1))) →
         Above j (firsts (row_before c (row_at t p) (devices_from n slots c t (socket + 1))))
-    go Nowhere e a = a
-    go (At i) e a = let q = row-socket slots t socket i e in (omega arith, a)
+    go None e a = a
+    go (Some i) e a = let q = row-socket slots t socket i e in (omega arith, a)
 
 devices-rise : (n slots : ℕ) (c t : List ℕ) (socket : ℕ) → Rising (firsts (devices_from n slots c t socket))
 unfolding devices_from row_before device_row
@@ -88,10 +87,10 @@ devices-rise zero slots c t socket = tt
 devices-rise (suc n) slots c t socket = go (place_of slots t socket) refl (devices-rise n slots c t (socket + 1))
   where
     go :
-        (p : Place) → place_of slots t socket ≡ p → Rising (firsts (devices_from n slots c t (socket + 1))) →
+        (p : Option ℕ) → place_of slots t socket ≡ p → Rising (firsts (devices_from n slots c t (socket + 1))) →
         Rising (firsts (row_before c (row_at t p) (devices_from n slots c t (socket + 1))))
-    go Nowhere e r = r
-    go (At i) e r =
+    go None e r = r
+    go (Some i) e r =
         let q = row-socket slots t socket i e in
         (devices-above n slots c t (socket + 1) (slot_at t i).socket (omega arith), r)
 
@@ -111,7 +110,7 @@ devices-has (suc n) slots c t from socket s l m e =
     (eq-or-lt_of_le l)
   where
     later :
-        (r : Option Slot) → Has (devices_from n slots c t (from + 1)) (device_row c s) →
+        (r : option.Option Slot) → Has (devices_from n slots c t (from + 1)) (device_row c s) →
         Has (row_before c r (devices_from n slots c t (from + 1))) (device_row c s)
     later option.none h = h
     later (some u) h = inr h
@@ -144,10 +143,10 @@ devices-only zero slots c t socket row h = absurd h
 devices-only (suc n) slots c t socket row h = go (place_of slots t socket) refl h (devices-only n slots c t (socket + 1) row)
   where
     go :
-        (p : Place) → place_of slots t socket ≡ p → Has (row_before c (row_at t p) (devices_from n slots c t (socket + 1))) row →
+        (p : Option ℕ) → place_of slots t socket ≡ p → Has (row_before c (row_at t p) (devices_from n slots c t (socket + 1))) row →
         (Has (devices_from n slots c t (socket + 1)) row → RowOf slots c t row) → RowOf slots c t row
-    go Nowhere e h rest = rest h
-    go (At i) e h rest =
+    go None e h rest = rest h
+    go (Some i) e h rest =
         let f = place_found slots t socket i e in
         ⊎_elim
         (λ (q : row ≡ device_row c (slot_at t i)). record { slot = i; within = f.1; taken = (holds_parts (slot_at t i) socket f.0).0; is = q })
@@ -164,7 +163,7 @@ devices-lists zero slots c t socket = refl
 devices-lists (suc n) slots c t socket = go (row_of slots t socket) (devices-lists n slots c t (socket + 1))
   where
     go :
-        (r : Option Slot) → length (firsts (devices_from n slots c t (socket + 1))) ≡ count (devices_from n slots c t (socket + 1)) →
+        (r : option.Option Slot) → length (firsts (devices_from n slots c t (socket + 1))) ≡ count (devices_from n slots c t (socket + 1)) →
         length (firsts (row_before c r (devices_from n slots c t (socket + 1)))) ≡ count (row_before c r (devices_from n slots c t (socket + 1)))
     go option.none e = e
     go (some s) e = ap suc e
@@ -180,10 +179,10 @@ listed-past zero slots c t from socket l = refl
 listed-past (suc n) slots c t from socket l = go (place_of slots t from) refl (listed-past n slots c t (from + 1) socket (omega arith))
   where
     go :
-        (p : Place) → place_of slots t from ≡ p → list_of (devices_from n slots c t (from + 1)) socket ≡ option.none →
+        (p : Option ℕ) → place_of slots t from ≡ p → list_of (devices_from n slots c t (from + 1)) socket ≡ option.none →
         list_of (row_before c (row_at t p) (devices_from n slots c t (from + 1))) socket ≡ option.none
-    go Nowhere e h = h
-    go (At i) e h = let q = row-socket slots t from i e in rw (ne_eqb (slot_at t i).socket socket (λ f. omega arith)) h
+    go None e h = h
+    go (Some i) e h = let q = row-socket slots t from i e in rw (ne_eqb (slot_at t i).socket socket (λ f. omega arith)) h
 
 listed_here :
     (n slots : ℕ) (c t : List ℕ) (socket : ℕ) → list_of (devices_from (suc n) slots c t socket) socket ≡ map (device_row c) (row_of slots t socket)
@@ -191,10 +190,10 @@ unfolding devices_from row_before device_row
 listed_here n slots c t socket = go (place_of slots t socket) refl
   where
     go :
-        (p : Place) → place_of slots t socket ≡ p →
+        (p : Option ℕ) → place_of slots t socket ≡ p →
         list_of (row_before c (row_at t p) (devices_from n slots c t (socket + 1))) socket ≡ map (device_row c) (row_at t p)
-    go Nowhere e = listed-past n slots c t (socket + 1) socket (omega arith)
-    go (At i) e = rw (eq-eqb (slot_at t i).socket socket (row-socket slots t socket i e))
+    go None e = listed-past n slots c t (socket + 1) socket (omega arith)
+    go (Some i) e = rw (eq-eqb (slot_at t i).socket socket (row-socket slots t socket i e))
 
 listed :
     (n slots : ℕ) (c t : List ℕ) (from socket : ℕ) → from ≤ socket → socket < from + n →
@@ -208,11 +207,11 @@ listed (suc n) slots c t from socket l m =
     (eq-or-lt_of_le l)
   where
     later :
-        from < socket → (p : Place) → place_of slots t from ≡ p →
+        from < socket → (p : Option ℕ) → place_of slots t from ≡ p →
         list_of (devices_from n slots c t (from + 1)) socket ≡ map (device_row c) (row_of slots t socket) →
         list_of (row_before c (row_at t p) (devices_from n slots c t (from + 1))) socket ≡ map (device_row c) (row_of slots t socket)
-    later k Nowhere e h = h
-    later k (At i) e h = let q = row-socket slots t from i e in rw (ne_eqb (slot_at t i).socket socket (λ f. omega arith)) h
+    later k None e h = h
+    later k (Some i) e h = let q = row-socket slots t from i e in rw (ne_eqb (slot_at t i).socket socket (λ f. omega arith)) h
 
 -- LAW: the row that is published for a socket is made of that socket's row in the table, and there is none where it has none
 pub row-published :

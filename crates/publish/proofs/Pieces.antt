@@ -4,7 +4,8 @@ use mathlib.Core.Path.{◌≡◌, refl, sym, ap, subst, ◌∙◌}
 use mathlib.Core.Bool.{true, false}
 use mathlib.Core.List.{List, [], ◌++◌, append-nil}
 use mathlib.Core.Option as option
-use mathlib.Core.Option.{Option, some}
+use mathlib.Core.Option.{some}
+use Rattle.std.specs.Prelude.{Option}
 use native.Mathlib.Omega.{arith}
 use native.Mathlib.Nat.{zero-add}
 use lib.ListN.{length, get_or, length-append}
@@ -18,7 +19,7 @@ use Rattle.list.specs.Tree as tree
 use Rattle.list.specs.Tree.{Elements, none, value, list, int, blob, count}
 use Rattle.list.specs.Bytes.{number, code_for, list_code_of, element_bytes, list_bytes}
 use Rattle.list.proofs.Codes.{CodeIs, mixed, typed, code_is, code-none}
-use Rattle.catalogue.specs.Format.{described}
+use Rattle.catalogue.specs.Format.{kind_number, described}
 use Rattle.catalogue.specs.Lookup.{device_of, BytesIn}
 use Rattle.catalogue.specs.declared.Device.{Device}
 use Rattle.catalogue.specs.declared.Parameter.{Parameter}
@@ -126,15 +127,15 @@ device-put {l} {m} {n} {at} {end} {held} c s p h e =
 
 -- the bytes of a device type that was found by its number
 pub bytes_of :
-    (c : List ℕ) (number : ℕ) {d : Device} {bytes : List ℕ} → d ≡ device_of c number → BytesIn c d bytes →
+    (c : List ℕ) (number : ℕ) {d : Option Device} {bytes : List ℕ} → d ≡ device_of c number → BytesIn c d bytes →
     BytesIn c (device_of c number) bytes
 bytes_of c number e h = rw e at h
 
 -- the value that value_of answers for a parameter's kind, by its byte, is the one that is held
 pub held-is :
     (c : List ℕ) (s : Slot) (p : ℕ) {bytes : List ℕ} {q : Parameter} {v : Value} → BytesIn c (device_of c s.device) bytes → p < param_count →
-    q ≡ described (get_or bytes p 0) → v ≡ value_of q.kind (bits_at s p) → v ≡ held_value c s p
-held-is c s p h l e f = f ∙ ap (λ (x : Parameter). value_of x.kind (bits_at s p)) e ∙ ap (λ (k : ℕ). value_of k (bits_at s p)) (sym (kind-is h p l))
+    q ≡ described (get_or bytes p 0) → v ≡ value_of (kind_number q.kind) (bits_at s p) → v ≡ held_value c s p
+held-is c s p h l e f = f ∙ ap (λ (x : Parameter). value_of (kind_number x.kind) (bits_at s p)) e ∙ ap (λ (k : ℕ). value_of k (bits_at s p)) (sym (kind-is h p l))
 
 -- the parameters from p on: the first is held, or it is not
 pub parameters-held :
@@ -184,7 +185,7 @@ devices-code zero slots c t socket = code-none
 devices-code (suc n) slots c t socket = go (row_of slots t socket) (devices-code n slots c t (socket + 1))
   where
     go :
-        (s : Option Slot) → list_code_of (devices_from n slots c t (socket + 1)) ≡ list_code →
+        (s : option.Option Slot) → list_code_of (devices_from n slots c t (socket + 1)) ≡ list_code →
         list_code_of (row_before c s (devices_from n slots c t (socket + 1))) ≡ list_code
     go option.none e = e
     go (some s) e = lists-code (device_row c s) (devices_from n slots c t (socket + 1))

@@ -4,10 +4,12 @@ use mathlib.Core.Path.{◌≡◌, refl, ap, ◌∙◌}
 use mathlib.Core.Bool.{Bool, true, false, cond, ◌&&◌}
 use mathlib.Core.List.{List}
 use mathlib.Core.Option as option
-use mathlib.Core.Option.{Option, some}
+use mathlib.Core.Option as option
+use mathlib.Core.Option.{some}
 use native.Mathlib.Omega.{arith}
 use lib.ListN.{length, length-append}
 use borrow.Author.Tests.{ne_eqb}
+use Rattle.std.specs.Prelude.{Option, Some, None}
 use Rattle.list.specs.Kind.{list_code}
 use Rattle.list.specs.Tree.{none, list, count}
 use Rattle.list.specs.Bytes.{element_bytes, list_bytes}
@@ -17,8 +19,6 @@ use Rattle.slot.specs.Slot.{param_count, present_at}
 use Rattle.slot.specs.Rows.{slot_at}
 use Rattle.slot.specs.declared.Slot.{Slot}
 use Rattle.table.specs.Places.{slot_count, socket_count, holds, place_from, place_of, row_at, row_of}
-use Rattle.table.specs.declared.Place.{Place}
-use Rattle.table.specs.declared.Place.TheVariants.{At, Nowhere}
 use Rattle.table.proofs.Searches.{holds_parts}
 use Rattle.publish.specs.Published.{element_of, held_value, pair, list_if, parameters_from, device_row, row_before, devices_from, published}
 use Rattle.publish.proofs.Pieces.{list_front, row_front, float_size, int-size, double-size, list-bytes, device-size, published-length}
@@ -63,7 +63,7 @@ devices-size zero slots c t socket = omega arith
 devices-size (suc n) slots c t socket = go (row_of slots t socket) (devices-size n slots c t (socket + 1))
   where
     go :
-        (r : Option Slot) →
+        (r : option.Option Slot) →
         length (element_bytes list_code (devices_from n slots c t (socket + 1))) ≤ count (devices_from n slots c t (socket + 1)) * row_most →
         length (element_bytes list_code (row_before c r (devices_from n slots c t (socket + 1)))) ≤
         count (row_before c r (devices_from n slots c t (socket + 1))) * row_most
@@ -98,9 +98,9 @@ sum-none (suc n) k = omega (arith, sum-none n (k + 1))
 one : Bool → ℕ
 one b = cond b 1 0
 
-seated : Place → ℕ
-seated (At i) = 1
-seated Nowhere = 0
+seated : Option ℕ → ℕ
+seated (Some i) = 1
+seated None = 0
 
 -- one slot holds one socket's device
 holds-above : (s : Slot) (k : ℕ) → s.socket < k → one (holds s k) ≡ 0
@@ -140,7 +140,7 @@ slots-hold (suc m) n t k i =
       slots-hold m n t k (i + 1),
     )
   where
-    step : (j : ℕ) (b : Bool) → seated (cond b (At i) (place_from m t j (i + 1))) ≤ one b + seated (place_from m t j (i + 1))
+    step : (j : ℕ) (b : Bool) → seated (cond b (Some i) (place_from m t j (i + 1))) ≤ one b + seated (place_from m t j (i + 1))
     step j true = omega arith
     step j false = omega arith
 
@@ -151,11 +151,11 @@ count-is zero slots c t socket = refl
 count-is (suc n) slots c t socket = go (place_of slots t socket) (count-is n slots c t (socket + 1))
   where
     go :
-        (p : Place) → count (devices_from n slots c t (socket + 1)) ≡ sum n (λ j. seated (place_of slots t j)) (socket + 1) →
+        (p : Option ℕ) → count (devices_from n slots c t (socket + 1)) ≡ sum n (λ j. seated (place_of slots t j)) (socket + 1) →
         count (row_before c (row_at t p) (devices_from n slots c t (socket + 1))) ≡
         seated p + sum n (λ j. seated (place_of slots t j)) (socket + 1)
-    go Nowhere e = e ∙ omega arith
-    go (At i) e = omega arith
+    go None e = e ∙ omega arith
+    go (Some i) e = omega arith
 
 -- LAW: no more sockets are seated than there are slots
 pub rows-at-most : (slots sockets : ℕ) (c t : List ℕ) → count (published slots sockets c t) ≤ slots

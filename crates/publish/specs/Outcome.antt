@@ -1,11 +1,12 @@
 -- Writing the table as a list ("Posting: 11, 9, 20"): 20, where 11 and 9 are ruled out.
-use Rattle.std.specs.Prelude.{ℕ, cond, List, ltb, length}
+use Rattle.std.specs.Prelude as prelude
+use Rattle.std.specs.Prelude.{ℕ, cond, List, ltb, length, Ok, Err}
+use Rattle.errors.specs.Number.{number_of}
+use Rattle.errors.specs.declared.Error.{Error}
 use Rattle.wire.specs.Area.{over}
 use Rattle.list.specs.Limits.{list_limit}
 use Rattle.list.specs.Bytes.{list_bytes}
 use Rattle.table.specs.Places.{slot_count, socket_count}
-use Rattle.publish.specs.declared.Published.{Published}
-use Rattle.publish.specs.declared.Published.TheVariants.{Written, Refused}
 use Rattle.publish.specs.Published.{published}
 
 -- what publishing answers: the bytes written, or the number of the error
@@ -13,10 +14,10 @@ pub data Result : Type 0 where
   written : (count : ℕ) → Result
   refused : (number : ℕ) → Result
 
--- the value or the number for each case of the answer
-abbrev pub result_of : Published → Result
-result_of (Written count) = written count
-result_of (Refused number) = refused number
+-- the bytes written, or the number of the refusal, for each case of the answer
+abbrev pub result_of : prelude.Result ℕ Error → Result
+result_of (Ok count) = written count
+result_of (Err e) = refused (number_of e)
 
 -- the result beside the lent buffer
 pub record Publishing : Type 0 where

@@ -9,7 +9,7 @@ use Rattle.std.proofs.Common.{of_z}
 use Rattle.wire.specs.Number.{le_bytes}
 use Rattle.list.specs.Tree as tree
 use Rattle.list.specs.Tree.{Elements, none, value, list, int, float, blob}
-use Rattle.catalogue.specs.Lookup.{parameter_of}
+use Rattle.catalogue.specs.Lookup.{parameter_of, kind_in}
 use Rattle.value.specs.Meaning.{value_of, widened}
 use Rattle.value.specs.declared.Value.{Value}
 use Rattle.value.specs.declared.Value.TheVariants as values
@@ -31,7 +31,7 @@ element_of (values.Nan bits) = double (widened bits)
 
 -- the value that a slot holds for parameter p, of the catalogue's kind
 abbrev pub held_value : List ℕ → Slot → ℕ → Value
-held_value c s p = value_of (parameter_of c s.device p).kind (bits_at s p)
+held_value c s p = value_of (kind_in (parameter_of c s.device p)) (bits_at s p)
 
 -- "a list of its index and value"
 abbrev pub pair : ℕ → tree.Value → Elements

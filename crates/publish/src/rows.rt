@@ -1,4 +1,5 @@
-// The rows of the list. A list's code and count are written once its elements stand behind them and are counted.
+// The rows of the list. A list's code and count are written once its elements stand behind them and are counted. Buffer and offset
+// stay two parameters: each function ends at an offset that its caller goes on from, and `numbers` takes both.
 ghost use Rattle.std.specs.Prelude.{◌+◌, ◌≤◌, ◌≡◌, ◌++◌, length};
 ghost use Rattle.std.proofs.lemmas.List.Edits.{sets};
 ghost use Rattle.wire.specs.Area.{over};
@@ -18,7 +19,7 @@ use catalogue::MAX_PARAMETERS;
 use list::{Kind, LIST_CODE};
 use numbers::put_two_u32;
 use slot::Slot;
-use table::{Place, SLOTS, SOCKETS};
+use table::{SLOTS, SOCKETS};
 
 // The bytes of a row before its parameters, and of the outer list before its rows.
 const ROW_FRONT: usize = 40;
@@ -48,15 +49,13 @@ fn put_parameters(c: &[u8], s: Slot, buffer: &mut [u8], at: usize) -> Extent
     let bytes = catalogue::parameter_bytes(c, d);
     let mut end = at;
     let mut count: u32 = 0;
-    let mut p: usize = 0;
-    while p < MAX_PARAMETERS {
+    for p in 0..MAX_PARAMETERS {
         if s.present[p] {
             let kind = catalogue::describe(bytes[p]).kind;
-            let v = value::value_of(kind, s.bits[p]);
+            let v = value::of_kind(kind, s.bits[p]);
             end = put_parameter(buffer, end, p as u32, v);
             count += 1;
         }
-        p += 1;
     }
     Extent { end, count }
 }
@@ -70,7 +69,8 @@ fn put_uid(buffer: &mut [u8], at: usize, uid: u64)
     numbers::put_u64(buffer, at + 8, uid);
 }
 
-// A device's row up to its parameters, of which `held` follow.
+// A device's row up to its parameters, of which `held` follow. `as` widens a byte here; `u32::from` would say no more,
+// and its proof would have one equation more for each piece.
 fn put_front(buffer: &mut [u8], at: usize, s: Slot, held: u32)
     requires { (at + 40 ≤ length buffer.old) × (held ≤ param_count) }
     ensures { buffer.new ≡ sets buffer.old at (front s held) }
@@ -99,15 +99,12 @@ fn put_devices(c: &[u8], t: &[u8], buffer: &mut [u8], at: usize) -> Extent
 {
     let mut end = at;
     let mut count: u32 = 0;
-    let mut socket: u8 = 0;
-    while socket < SOCKETS {
-        let place = table::find_slot(t, SLOTS, socket);
-        if let Place::At(i) = place {
+    for socket in 0..SOCKETS {
+        if let Some(i) = table::find_slot(t, SLOTS, socket) {
             let s = slot::slot_at(t, i);
             end = put_device(c, s, buffer, end);
             count += 1;
         }
-        socket += 1;
     }
     Extent { end, count }
 }

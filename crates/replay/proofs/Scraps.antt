@@ -1,12 +1,11 @@
 -- A call on a line takes no more than it is given, whatever the line state and the packet area are.
-use Prim.Native.Nat.{ℕ, ◌+◌, ◌-◌, ◌≤◌}
+use Prim.Native.Nat.{ℕ, ◌≤◌}
 use mathlib.Core.Path.{◌≡◌, ap}
 use mathlib.Core.Bool.{Bool, true, false, cond}
 use mathlib.Core.List.{List}
 use native.Mathlib.Omega.{arith}
 use lib.Dec.{ltb}
-use lib.ListN.{length, take, drop, length-drop}
-use lib.Seq.{length-take-le}
+use lib.ListN.{length}
 use Rattle.packet.specs.Packet.{PACKET_ROOM}
 use Rattle.packet_line.specs.State.{is_line, state_in, state_bytes}
 use Rattle.packet_line.specs.Push.{Answer, refusal, Taken, taken_from, Outcome, outcome, outcome_of, pushed}
@@ -26,10 +25,6 @@ pushed-within line bytes area = go (ltb (length area) PACKET_ROOM) (is_line line
     go false true = omega (arith, ap (λ (z : Outcome). z.consumed) (areas-fields t.finding t.consumed (state_bytes t.state) area), taken-within (state_in line) bytes)
     go false false = omega arith
 
--- so a call on the bytes from an offset on ends within them
-pub call-within : {a : Answer} {line' area' : List ℕ} (line bytes area : List ℕ) (at consumed : ℕ) → at ≤ length bytes
-    → outcome a consumed line' area' ≡ pushed line (take (length bytes - at) (drop at bytes)) area → at + consumed ≤ length bytes
-call-within line bytes area at consumed h o =
-    let rest : List ℕ = take (length bytes - at) (drop at bytes) in
-    let n : length rest ≡ length bytes - at = length-take-le (length bytes - at) (drop at bytes) (omega (arith, length-drop at bytes)) in
-    omega (arith, ap (λ (z : Outcome). z.consumed) o, pushed-within line rest area)
+pub call-within : {a : Answer} {line' area' : List ℕ} (line bytes area : List ℕ) (consumed : ℕ) → outcome a consumed line' area' ≡ pushed line bytes area
+    → consumed ≤ length bytes
+call-within line bytes area consumed o = omega (arith, ap (λ (z : Outcome). z.consumed) o, pushed-within line bytes area)

@@ -2,9 +2,9 @@
 // and for a line one for each finding.
 #![tactic(auto)]
 
-mod arrival;
 mod play;
 mod record;
+mod stand;
 mod value_line;
 
 // The numbers of the standard streams.

@@ -1,59 +1,55 @@
-// Records: their numbers and sizes.
-ghost use Rattle.std.specs.Prelude.{◌+◌, ◌≤◌, ◌≡◌, true, length};
-ghost use Rattle.table.specs.Places.{slot_count, table_size};
+// Records: their sizes, and what each asks for.
+ghost use Rattle.std.specs.Prelude.{◌≡◌, true, drop, IfSome};
 ghost use Rattle.replay.specs.Record.{record_size, Whole};
 
 use hub::{SLOT_BYTES, TABLE_BYTES};
-use table::SLOTS;
 
-pub const RECEIVE: u8 = 1;
+// The first bytes of records.
+const RECEIVE: u8 = 1;
 
-pub const DETACH: u8 = 2;
+const DETACH: u8 = 2;
 
-pub const PUBLISH: u8 = 3;
+const PUBLISH: u8 = 3;
 
-pub const READ: u8 = 4;
+const READ: u8 = 4;
 
-pub const LOAD: u8 = 5;
+const LOAD: u8 = 5;
 
-pub const SHOW: u8 = 6;
+const SHOW: u8 = 6;
 
-pub const LINE: u8 = 7;
+const LINE: u8 = 7;
+
+// The bytes before a packet or a line's bytes: the record's first, the socket and a length of two bytes.
+const FRONT: usize = 4;
+
+pub enum Record<'r> {
+    Receive { socket: u8, packet: &'r [u8] },
+    Detach { socket: u8 },
+    Publish,
+    Read { socket: u8, index: u8 },
+    Load { table: &'r [u8] },
+    Show,
+    Line { socket: u8, bytes: &'r [u8] },
+}
 
 // The bytes of the record that these bytes start with, 0 where its number is unknown.
-pub fn size_of(s: &[u8]) -> usize
+fn size_of(s: &[u8]) -> usize
     ensures { result ≡ record_size s.now }
 {
     match wire::byte_at(s, 0) {
-        RECEIVE => 4 + numbers::u16_at(s, 2) as usize,
+        RECEIVE => FRONT + numbers::u16_at(s, 2) as usize,
         DETACH => 2,
         PUBLISH => 1,
         READ => 3,
         LOAD => 1 + TABLE_BYTES,
         SHOW => 1,
-        LINE => 4 + numbers::u16_at(s, 2) as usize,
+        LINE => FRONT + numbers::u16_at(s, 2) as usize,
         _ => 0,
     }
 }
 
-// Whether the bytes behind the first are a table's rows.
-fn are_rows(s: &[u8]) -> bool
-    requires { 1 + table_size slot_count ≤ length s.now }
-{
-    let mut i: usize = 0;
-    while i < SLOTS {
-        let at = 1 + SLOT_BYTES * i;
-        if slot::is_row(&s[at..at + SLOT_BYTES]) {
-            i += 1;
-        } else {
-            return false;
-        }
-    }
-    true
-}
-
 // Whether a record that is known, whole and loads no other flags than 0 and 1 stands at the front.
-pub fn is_good(s: &[u8]) -> bool
+fn is_good(s: &[u8]) -> bool
     ensures { result ≡ true → Whole s.now }
 {
     let size = size_of(s);
@@ -63,8 +59,40 @@ pub fn is_good(s: &[u8]) -> bool
     if s.len() < size {
         return false;
     }
-    if wire::byte_at(s, 0) == LOAD {
-        return are_rows(s);
+    if s[0] == LOAD {
+        return s[1..size]
+            .chunks_exact(SLOT_BYTES)
+            .all(|row| slot::is_row(row));
     }
     true
+}
+
+// The record at the front of the bytes and the bytes behind it, where it is a good one.
+pub fn next(s: &[u8]) -> Option<(Record<'_>, &[u8])>
+    ensures { IfSome result (λ r. Whole s.now × (r.1.now ≡ drop (record_size s.now) s.now)) }
+{
+    if !is_good(s) {
+        return None;
+    }
+    let (front, behind) = s.split_at(size_of(s));
+    let socket = wire::byte_at(front, 1);
+    let record = match s[0] {
+        RECEIVE => Record::Receive {
+            socket,
+            packet: &front[FRONT..],
+        },
+        DETACH => Record::Detach { socket },
+        PUBLISH => Record::Publish,
+        READ => Record::Read {
+            socket,
+            index: wire::byte_at(front, 2),
+        },
+        LOAD => Record::Load { table: &front[1..] },
+        LINE => Record::Line {
+            socket,
+            bytes: &front[FRONT..],
+        },
+        _ => Record::Show,
+    };
+    Some((record, behind))
 }

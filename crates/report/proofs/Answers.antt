@@ -3,6 +3,7 @@ use Prim.Native.Nat.{ℕ, zero, suc, ◌+◌, ◌*◌, ◌≤◌, ◌<◌}
 use mathlib.Core.Bool.{Bool, true, false, cond}
 use mathlib.Core.Path.{◌≡◌, refl, sym, ap, ◌∙◌}
 use mathlib.Core.List.{List, [], ◌∷◌, ◌++◌, append_assoc}
+use Rattle.std.specs.Prelude.{Option, Some, None, Result, Ok, Err}
 use native.Mathlib.Omega.{arith}
 use native.Mathlib.Numerals.{add-one}
 use lib.Dec.{eqb}
@@ -26,8 +27,7 @@ use Rattle.list.proofs.RowBound.{list-size}
 use Rattle.list.proofs.Sound.{sound, reaches}
 use Rattle.list_decode.specs.Decode.{Outcome, outcome, answered as reading, decoding_of}
 use Rattle.list_decode.proofs.Answers.{enough}
-use Rattle.stream.specs.declared.Step.{Step}
-use Rattle.stream.specs.declared.Step.TheVariants as step
+use Rattle.list_decode.specs.declared.Decoded.{Decoded}
 use Rattle.stream.specs.Step.{Found, accepted, ended, refused, from_front, answered_by, step_of, found_of}
 use Rattle.report.specs.Limits.{least_list}
 use Rattle.report.specs.Text.{end_line, stop_line, text_from}
@@ -50,7 +50,7 @@ pub record ListAt (s : List ℕ) (offset n m u : ℕ) : Type 0 where
   pub fits : offset + n ≤ length s
 
 -- a step over rows and store with enough room
-module _ (s : List ℕ) (offset : ℕ) (rows store rows' store' : List ℕ) (a : Step)
+module _ (s : List ℕ) (offset : ℕ) (rows store rows' store' : List ℕ) (a : Result (Option Decoded) Refusal)
     (h : length rows ≡ 4 * row_room) (g : length store ≡ store_room) (f : offset ≤ length s)
     (o : outcome (found_of a) rows' store' ≡ step_of s offset rows store) where
   -- what it finds and leaves, by whether the end is reached and what list reading says there
@@ -61,7 +61,7 @@ module _ (s : List ℕ) (offset : ℕ) (rows store rows' store' : List ℕ) (a :
   unfolding step_of decoding_of
   step-found = o ∙ rw (enough rows store (omega arith) (omega arith), le-ltb (length s) offset f)
 
-  pub end-found : a ≡ step.End → eqb offset (length s) ≡ true
+  pub end-found : a ≡ Ok None → eqb offset (length s) ≡ true
   end-found e = go (eqb offset (length s)) (parse list_limit (drop offset s)) refl (ap found_of (sym e) ∙ ap (λ (z : Outcome Found). z.answer) step-found)
     where
       go : (b : Bool) (p : Parsed Elements) → eqb offset (length s) ≡ b → ended ≡ (found b p).answer → eqb offset (length s) ≡ true
@@ -70,7 +70,7 @@ module _ (s : List ℕ) (offset : ℕ) (rows store rows' store' : List ℕ) (a :
       go false (bad r) q w = absurd (let z : ◌≡◌ {A = ℕ} 0 1 = cc in omega arith)
 
   -- the text of a step that is refused, whatever is behind it
-  pub stop-found : (x : Refusal) (line : ℕ → Elements → List ℕ) (fuel k : ℕ) → a ≡ step.Refused x → text_from line (suc fuel) s offset k ≡ stop_line (refusal_of x)
+  pub stop-found : (x : Refusal) (line : ℕ → Elements → List ℕ) (fuel k : ℕ) → a ≡ Err x → text_from line (suc fuel) s offset k ≡ stop_line (refusal_of x)
   unfolding text_from
   stop-found x line fuel k e =
       go (eqb offset (length s)) (parse list_limit (drop offset s)) refl refl (ap found_of (sym e) ∙ ap (λ (z : Outcome Found). z.answer) step-found)
@@ -83,12 +83,21 @@ module _ (s : List ℕ) (offset : ℕ) (rows store rows' store' : List ℕ) (a :
           let same : moved offset r ≡ refusal_of x = cc in
           rw (q, v) (ap stop_line same)
 
-  pub list-found : ((i : ℕ) → Fits w8 (get_or s i 0)) → (n m u : ℕ) → a ≡ step.List n m u → ListAt s offset n m u
-  list-found b n m u e =
+  pub list-found : ((i : ℕ) → Fits w8 (get_or s i 0)) → (d : Decoded) → a ≡ Ok (Some d) → ListAt s offset d.consumed d.rows d.stored
+  list-found b d e =
       let all : outcome (accepted n m u) rows' store' ≡ found (eqb offset (length s)) (parse list_limit (drop offset s)) =
-      ap (λ (z : Step). outcome (found_of z) rows' store') (sym e) ∙ step-found in
+      ap (λ (z : Result (Option Decoded) Refusal). outcome (found_of z) rows' store') (sym e) ∙ step-found in
       go (eqb offset (length s)) (parse list_limit (drop offset s)) refl refl all (ap (λ (z : Outcome Found). z.answer) all)
     where
+      n : ℕ
+      n = d.consumed
+
+      m : ℕ
+      m = d.rows
+
+      u : ℕ
+      u = d.stored
+
       go : (c : Bool) (p : Parsed Elements) → eqb offset (length s) ≡ c → parse list_limit (drop offset s) ≡ p
           → outcome (accepted n m u) rows' store' ≡ found c p → accepted n m u ≡ (found c p).answer → ListAt s offset n m u
       go true p q v w t = absurd (let z : ◌≡◌ {A = ℕ} 0 1 = cc in omega arith)

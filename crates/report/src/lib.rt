@@ -8,6 +8,7 @@ ghost use Rattle.report.specs.Limits.{input_limit};
 ghost use Rattle.report.specs.Text.{end_pieces, stop_pieces, too_long};
 
 use list::Refusal;
+use output::Output;
 
 // "over 32,768 bytes it prints `too long`"
 pub const INPUT_LIMIT: usize = 32768;
@@ -20,24 +21,24 @@ pub fn is_too_long(bytes: &[u8]) -> bool
 }
 
 // `end 112`
-pub fn put_end(text: &mut [u8], used: usize, offset: usize) -> usize
-    ensures { Output·output text.new result ≡ puts (Output·output text.old used) (end_pieces offset) }
+pub fn put_end<const N: usize>(out: &mut Output<N>, offset: usize)
+    ensures { Output·output out.new.buffer out.new.used ≡ puts (Output·output out.old.buffer out.old.used) (end_pieces offset) }
 {
-    output::put_line(text, used, b"end ", offset as u64)
+    out.put_line(b"end ", offset as u64);
 }
 
 // `stop 21 at 112 depth 0`
-pub fn put_stop(text: &mut [u8], used: usize, refusal: Refusal) -> usize
-    ensures { Output·output text.new result ≡ puts (Output·output text.old used) (stop_pieces (refusal_of refusal)) }
+pub fn put_stop<const N: usize>(out: &mut Output<N>, refusal: Refusal)
+    ensures { Output·output out.new.buffer out.new.used ≡ puts (Output·output out.old.buffer out.old.used) (stop_pieces (refusal_of refusal)) }
 {
-    let behind_error = output::put_number(text, used, b"stop ", refusal.error as u64);
-    let behind_offset = output::put_number(text, behind_error, b" at ", refusal.offset as u64);
-    output::put_line(text, behind_offset, b" depth ", refusal.depth as u64)
+    out.put_number(b"stop ", refusal.error.number() as u64);
+    out.put_number(b" at ", refusal.offset as u64);
+    out.put_line(b" depth ", refusal.depth as u64);
 }
 
 // `too long`
-pub fn put_too_long(text: &mut [u8], used: usize) -> usize
-    ensures { Output·output text.new result ≡ put (Output·output text.old used) too_long }
+pub fn put_too_long<const N: usize>(out: &mut Output<N>)
+    ensures { Output·output out.new.buffer out.new.used ≡ put (Output·output out.old.buffer out.old.used) too_long }
 {
-    output::put(text, used, b"too long\n")
+    out.put(b"too long\n");
 }

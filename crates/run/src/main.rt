@@ -11,13 +11,12 @@ ghost use Rattle.run.specs.Limits.{longest_line, text_room};
 ghost use Rattle.run.specs.Text.{list_line, line_of};
 
 use list::{NUMBER, ROW_BYTES, STORE_ROOM};
+use list_decode::Decoded;
+use output::Output;
 use report::INPUT_LIMIT;
-use stream::Step;
 
-// The numbers of the standard streams.
+// The number of the standard input.
 const STDIN_FILENO: i32 = 0;
-
-const STDOUT_FILENO: i32 = 1;
 
 // The longest line: three labels, 18 bytes together, three numbers of up to 20 digits and a newline.
 const LONGEST_LINE: usize = 18 + 3 * 20 + 1;
@@ -31,54 +30,60 @@ fn main() {
     let n = io::read_full(STDIN_FILENO, &mut input);
     let mut rows = [0u8; ROW_BYTES];
     let mut store = [0u8; STORE_ROOM];
-    let mut text = [0u8; TEXT_ROOM];
-    let used = report(&input[..n], &mut rows, &mut store, &mut text);
-    io::write_all(STDOUT_FILENO, &text[..used]);
+    let mut out = Output::<TEXT_ROOM>::new();
+    report(&input[..n], &mut rows, &mut store, &mut out);
+    out.flush();
 }
 
-// What is printed for the bytes that were read; answers the bytes of text.
-fn report(bytes: &[u8], rows: &mut [u8], store: &mut [u8], text: &mut [u8]) -> usize
-    requires { (length rows.old ≡ 4 * row_room) × (length store.old ≡ store_room) × (length text.old ≡ text_room) }
-    ensures { (take result text.new ≡ program_text line_of bytes.now) × IsPrefixLen result text.new }
+// What is printed for the bytes that were read.
+fn report(
+    bytes: &[u8],
+    rows: &mut [u8; ROW_BYTES],
+    store: &mut [u8; STORE_ROOM],
+    out: &mut Output<TEXT_ROOM>,
+)
+    requires { (length out.old.buffer ≡ text_room) × (out.old.used ≡ 0) }
+    ensures { (take out.new.used out.new.buffer ≡ program_text line_of bytes.now) × (out.new.used ≤ length out.new.buffer) }
 {
     if report::is_too_long(bytes) {
-        return report::put_too_long(text, 0);
+        report::put_too_long(out);
+        return;
     }
-    stream_text(bytes, rows, store, text)
+    stream_text(bytes, rows, store, out)
 }
 
 // All lines of a stream.
-fn stream_text(bytes: &[u8], rows: &mut [u8], store: &mut [u8], text: &mut [u8]) -> usize
-    requires { (length bytes.now ≤ input_limit) × (length rows.old ≡ 4 * row_room) × (length store.old ≡ store_room) × (length text.old ≡ text_room) }
-    ensures { (take result text.new ≡ text_of line_of bytes.now) × IsPrefixLen result text.new }
+fn stream_text(
+    bytes: &[u8],
+    rows: &mut [u8; ROW_BYTES],
+    store: &mut [u8; STORE_ROOM],
+    out: &mut Output<TEXT_ROOM>,
+)
+    requires { (length bytes.now ≤ input_limit) × (length out.old.buffer ≡ text_room) × (out.old.used ≡ 0) }
+    ensures { (take out.new.used out.new.buffer ≡ text_of line_of bytes.now) × (out.new.used ≤ length out.new.buffer) }
 {
     let mut offset: usize = 0;
-    let mut used: usize = 0;
-    let mut k: usize = 1;
+    let mut k: u64 = 1;
+    // Where the next list stands is known when one is read, and a refusal ends the way as an end does: no `for` goes so.
     loop {
-        let step = stream::next(bytes, offset, rows, store);
-        match step {
-            Step::List {
-                consumed,
-                rows: n,
-                stored: _,
-            } => {
-                used = list_line(text, used, k, consumed, n as usize);
-                offset += consumed;
+        match stream::next(bytes, offset, rows, store) {
+            Ok(Some(list)) => {
+                put_list(out, k, list);
+                offset += list.consumed;
                 k += 1;
             }
-            Step::End => return report::put_end(text, used, offset),
-            Step::Refused(refusal) => return report::put_stop(text, used, refusal),
+            Ok(None) => return report::put_end(out, offset),
+            Err(refusal) => return report::put_stop(out, refusal),
         }
     }
 }
 
 // `list 1 bytes 40 rows 9`
-fn list_line(text: &mut [u8], used: usize, k: usize, consumed: usize, rows: usize) -> usize
-    requires { used + longest_line ≤ length text.old }
-    ensures { Added text.old used text.new result (list_line k consumed rows) × (result ≤ used + longest_line) }
+fn put_list(out: &mut Output<TEXT_ROOM>, k: u64, list: Decoded)
+    requires { out.old.used + longest_line ≤ length out.old.buffer }
+    ensures { Added out.old.buffer out.old.used out.new.buffer out.new.used (list_line k list.consumed list.rows) × (out.new.used ≤ out.old.used + longest_line) × (length out.new.buffer ≡ length out.old.buffer) }
 {
-    let a = output::put_number(text, used, b"list ", k as u64);
-    let b = output::put_number(text, a, b" bytes ", consumed as u64);
-    output::put_line(text, b, b" rows ", rows as u64)
+    out.put_number(b"list ", k);
+    out.put_number(b" bytes ", list.consumed as u64);
+    out.put_line(b" rows ", list.rows as u64);
 }

@@ -11,7 +11,8 @@ use Rattle.list.specs.Refusal.{refusal, refusal_at}
 use Rattle.list.specs.Parse.{item_fault, string_at, blob_at, value_at, typed_at, is_list_code, coded_at, mixed_at, body_at, list_at, parse}
 use Rattle.list_check.specs.Check.{whole}
 use Rattle.setting.specs.Entry.{search_from}
-use Rattle.setting.specs.Lookup.{guest, house, found, refused, missing, lookup}
+use Rattle.setting.specs.declared.Owner.TheVariants.{Guest, House}
+use Rattle.setting.specs.Lookup.{found, refused, missing, lookup}
 
 -- strings of one character and of none, and an entry of the two
 abbrev a : List ℕ
@@ -47,17 +48,17 @@ abbrev bare : List ℕ
 bare = entry_bytes (one a) (one b)
 
 pub cases :
-    (lookup own other a ≡ found guest 26 1)
-    × (lookup other own a ≡ found guest 107 1)
-    × (lookup bare own a ≡ found house 26 1)
-    × (lookup own other [] ≡ found guest 65 1)
-    × (lookup own other c ≡ found house 88 0)
+    (lookup own other a ≡ found Guest 26 1)
+    × (lookup other own a ≡ found Guest 107 1)
+    × (lookup bare own a ≡ found House 26 1)
+    × (lookup own other [] ≡ found Guest 65 1)
+    × (lookup own other c ≡ found House 88 0)
     × (lookup own other b ≡ missing)
     × (lookup own other (97 ∷ 0 ∷ []) ≡ missing)
-    × (lookup (own ++ (0 ∷ [])) [] a ≡ refused guest (refusal 29 67))
-    × (lookup own (other ++ (0 ∷ [])) a ≡ refused house (refusal 29 109))
-    × (lookup own [] a ≡ refused house (refusal 21 0))
-    × (lookup [] [] a ≡ refused guest (refusal 21 0))
-    × (lookup own (take 66 own) a ≡ refused house (refusal_at 21 65 2))
+    × (lookup (own ++ (0 ∷ [])) [] a ≡ refused Guest (refusal 29 67))
+    × (lookup own (other ++ (0 ∷ [])) a ≡ refused House (refusal 29 109))
+    × (lookup own [] a ≡ refused House (refusal 21 0))
+    × (lookup [] [] a ≡ refused Guest (refusal 21 0))
+    × (lookup own (take 66 own) a ≡ refused House (refusal_at 21 65 2))
 unfolding has_zero same kind_of code_for item_fault string_at blob_at value_at typed_at is_list_code coded_at mixed_at body_at list_at parse whole search_from lookup
 cases = (refl, refl, refl, refl, refl, refl, refl, refl, refl, refl, refl, refl)

@@ -23,7 +23,9 @@ use Rattle.list.proofs.Codes.{code_is, AllKind, CodeIs, mixed, typed}
 use Rattle.list.proofs.Complete.{no_zero}
 use Rattle.list.proofs.Items.{Stands, stands-front, stands-behind}
 use Rattle.setting.specs.Entry.{Search, at, nowhere, or_else, entry, entry_of, before, in_entry, search_from, search_in}
-use Rattle.setting.specs.Lookup.{Owner, guest, house, Finding, found, refused, choice, decided, lookup, number_of, answer, area_of, answer_of}
+use Rattle.setting.specs.declared.Owner.{Owner}
+use Rattle.setting.specs.declared.Owner.TheVariants.{Guest, House}
+use Rattle.setting.specs.Lookup.{Finding, found, refused, choice, decided, lookup, number_of, answer, area_of, answer_of}
 use Rattle.setting.specs.Meaning.{Meaning, is, unset, said_by, meaning, Spelled, FoundIn, Right}
 use Rattle.list_check.specs.Check.{whole}
 use Rattle.list_check.proofs.Whole.{whole-list, whole-spells, fault-open}
@@ -105,10 +107,10 @@ lists-answered key es fs l m =
   where
     go : (x : Search) (p : Meaning) (y : Search) (q : Meaning) → Agree (list_bytes es) x p → Agree (list_bytes fs) y q
         → Right p q (list_bytes es) (list_bytes fs) (choice x y)
-    go (at o n) (is v) y q a b = record { offset = o; answers = ap (found guest o) a.0; spelled = a.1 }
+    go (at o n) (is v) y q a b = record { offset = o; answers = ap (found Guest o) a.0; spelled = a.1 }
     go (at o n) unset y q a b = absurd a
     go nowhere (is v) y q a b = absurd a
-    go nowhere unset (at o n) (is v) a b = record { offset = o; answers = ap (found house o) b.0; spelled = b.1 }
+    go nowhere unset (at o n) (is v) a b = record { offset = o; answers = ap (found House o) b.0; spelled = b.1 }
     go nowhere unset (at o n) unset a b = absurd b
     go nowhere unset nowhere (is v) a b = absurd b
     go nowhere unset nowhere unset a b = refl
@@ -121,8 +123,8 @@ accepted-lists g h key bg bh fine = go (whole g) refl (whole h) refl fine
   where
     go : (x : Parsed Elements) → whole g ≡ x → (y : Parsed Elements) → whole h ≡ y → ((o : Owner) (r : Refusal) → decided key x y ≡ refused o r → ⊥)
         → ((es : Elements) × Legal list_limit es × (g ≡ list_bytes es)) × ((fs : Elements) × Legal list_limit fs × (h ≡ list_bytes fs))
-    go (bad r) e y f no-fault = absurd (no-fault guest r refl)
-    go (good es m) e (bad r) f no-fault = absurd (no-fault house r refl)
+    go (bad r) e y f no-fault = absurd (no-fault Guest r refl)
+    go (good es m) e (bad r) f no-fault = absurd (no-fault House r refl)
     go (good es m) e (good fs n) f no-fault =
         let p = whole-spells g es m bg e in
         let q = whole-spells h fs n bh f in
@@ -140,8 +142,8 @@ refused-depth g h key o r e = go (whole g) refl (whole h) refl e
 
     go : (x : Parsed Elements) → whole g ≡ x → (y : Parsed Elements) → whole h ≡ y → decided key x y ≡ refused o r
         → r.depth ≡ depth_at (area_of o g h) r.number r.offset
-    go (bad f) p y q w = let i : f ≡ r = cc in let j : guest ≡ o = cc in rw (← j, ← i) (fault-open g f p)
-    go (good es m) p (bad f) q w = let i : f ≡ r = cc in let j : house ≡ o = cc in rw (← j, ← i) (fault-open h f q)
+    go (bad f) p y q w = let i : f ≡ r = cc in let j : Guest ≡ o = cc in rw (← j, ← i) (fault-open g f p)
+    go (good es m) p (bad f) q w = let i : f ≡ r = cc in let j : House ≡ o = cc in rw (← j, ← i) (fault-open h f q)
     go (good es m) p (good fs n) q w = chosen (search_in key es) (search_in key fs) w
 
 -- LAW: the part that is given back is that string

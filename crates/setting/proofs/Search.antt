@@ -18,9 +18,9 @@ use Rattle.list.specs.Parse.{word}
 use Rattle.list.proofs.Codes.{code_is, code-good, AllKind, CodeIs, mixed, typed}
 use Rattle.list.proofs.Complete.{count-le}
 use Rattle.list.proofs.Items.{Stands, stands-behind, word_of}
-use Rattle.setting.specs.declared.entry.Turn.TheVariants.{Found, Next}
+use Rattle.setting.specs.declared.entry.Turn.TheVariants.{Next}
 use Rattle.setting.specs.Entry.{at, nowhere, search_from, search_in}
-use Rattle.setting.specs.Steps.{in_read, search_area, candidate_count, ElementHere, turn_of}
+use Rattle.setting.specs.Steps.{in_read, search_area, candidate_count, found_at, ElementHere, turn_of}
 use Rattle.list_check.specs.Check.{IsWhole}
 use Rattle.list_check.proofs.Whole.{whole-spells}
 use Rattle.setting.proofs.Walk.{behind, or_next, first_of, next_of, search-found, search-next}
@@ -112,7 +112,7 @@ module _ (s key : List ℕ) (left pos : ℕ) (l : Left s key left pos) where
     gives : turn_of s key pos ≡ or_next (first_of key pos l.elements) (next_of pos l.elements)
     gives = element-gives s l.short key l.elements pos any l.stands
 
-    pub turn-found : (offset size : ℕ) → turn_of s key pos ≡ Found offset size → at offset size ≡ search_area key s
+    pub turn-found : (offset size : ℕ) → turn_of s key pos ≡ found_at offset size → at offset size ≡ search_area key s
     turn-found offset size e = sym (search-found key pos l.elements offset size (sym gives ∙ e)) ∙ l.same
 
     pub turn-next : (next : ℕ) → turn_of s key pos ≡ Next next → Left s key (left - 1) next

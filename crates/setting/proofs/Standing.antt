@@ -23,9 +23,9 @@ use Rattle.list.proofs.RowBound.{value-size}
 use Rattle.list.proofs.Items.{Stands, stands-length, stands-behind, stands-take, word_of}
 use Rattle.list_skip.specs.Skip.{elements_end}
 use Rattle.list_skip.proofs.Steps.{elements-end}
-use Rattle.setting.specs.declared.entry.Turn.TheVariants.{Found, Next}
+use Rattle.setting.specs.declared.entry.Turn.TheVariants.{Next}
 use Rattle.setting.specs.Entry.{at, nowhere, entry, other, entry_of, before, in_entry}
-use Rattle.setting.specs.Steps.{is_entry, EntryHere, ElementHere, second_at, setting_at, entry_turn, turn_of}
+use Rattle.setting.specs.Steps.{is_entry, EntryHere, ElementHere, second_at, setting_at, entry_turn, turn_of, found_at}
 use Rattle.setting.proofs.Entries.{entry_tree, IsEntry, entry-or-other, code-entry}
 use Rattle.setting.proofs.Walk.{alone, behind, or_next, first_of, next_of}
 
@@ -129,7 +129,7 @@ module _ (s : List ℕ) (short : length s ≤ list_limit) where
       let end : setting_at s pos + word s (second_at s pos) ≡ next_of pos (list (entry_tree k v) none) = omega (arith, r.key-length, r.value-length, entry-size k v) in
       rw (size, r.key-bytes, some, end, offset) (go (same k key))
     where
-      go : (b : Bool) → cond b (Found (pos + length (before k v)) (length v)) (Next (next_of pos (list (entry_tree k v) none)))
+      go : (b : Bool) → cond b (found_at (pos + length (before k v)) (length v)) (Next (next_of pos (list (entry_tree k v) none)))
           ≡ or_next (cond b (at (pos + length (before k v)) (length v)) nowhere) (next_of pos (list (entry_tree k v) none))
       go true = refl
       go false = refl

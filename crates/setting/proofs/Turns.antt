@@ -1,21 +1,17 @@
 -- An entry at an offset, by what was read of it, and the answer of the search.
-use Prim.Native.Nat.{ℕ, ◌+◌, ◌-◌, ◌≤◌, ◌<◌}
+use Prim.Native.Nat.{ℕ, ◌+◌, ◌-◌}
 use mathlib.Core.Path.{◌≡◌, sym, ap, ◌∙◌}
-use mathlib.Core.Bool.{Bool, true, false, cond}
+use mathlib.Core.Bool.{Bool, true, false}
 use mathlib.Core.List.{List}
 use native.Mathlib.Omega.{arith}
 use lib.ListN.{take, drop}
-use borrow.Author.Tests.{eq-eqb, ne_eqb}
 use Rattle.wire.specs.Number.{number_at}
 use Rattle.wire.specs.Equal.{same}
 use Rattle.wire.proofs.Numbers.{part-number}
 use Rattle.list.specs.Strings.{string_size}
 use Rattle.list.specs.Parse.{word}
-use Rattle.list_skip.specs.Skip.{elements_end}
-use Rattle.setting.specs.declared.entry.Turn.TheVariants.{Found, Next}
-use Rattle.setting.specs.declared.entry.Span.{Span}
-use Rattle.setting.specs.Entry.{at, nowhere}
-use Rattle.setting.specs.Steps.{is_entry, second_at, setting_at, entry_turn, turn_of, span_of}
+use Rattle.setting.specs.declared.entry.Turn.TheVariants.{Next}
+use Rattle.setting.specs.Steps.{second_at, setting_at, found_at, entry_turn}
 
 -- a number that was read from a part of its size
 pub part-word : (s : List ℕ) (pos : ℕ) → number_at 4 (take (pos + 4 - pos) (drop pos s)) 0 ≡ word s pos
@@ -34,7 +30,7 @@ module _ (s key : List ℕ) (pos first second n length : ℕ) (t : Bool)
   test-is : t ≡ same (take (string_size (word s (pos + 8))) (drop (pos + 12) s)) key
   test-is = is ∙ rw (at₁, size)
 
-  pub turn-found : t ≡ true → Found (second + 4) (length - 1) ≡ entry_turn s key pos
+  pub turn-found : t ≡ true → found_at (second + 4) (length - 1) ≡ entry_turn s key pos
   unfolding entry_turn
   turn-found e =
       let a : second + 4 ≡ setting_at s pos = omega (arith, second_is) in
@@ -45,22 +41,3 @@ module _ (s key : List ℕ) (pos first second n length : ℕ) (t : Bool)
   turn-next e =
       let a : second + 4 ≡ setting_at s pos = omega (arith, second_is) in
       rw (sym test-is ∙ e, a, length-is)
-
--- a value stands behind the front of its entry
-pub found-behind : (s key : List ℕ) (pos offset size : ℕ) → turn_of s key pos ≡ Found offset size → 0 < offset
-unfolding turn_of entry_turn
-found-behind s key pos offset size = go (is_entry s pos) (same (take (string_size (word s (pos + 8))) (drop (pos + 12) s)) key)
-  where
-    go : (a b : Bool)
-        → cond a (cond b (Found (setting_at s pos) (string_size (word s (second_at s pos)))) (Next (setting_at s pos + word s (second_at s pos)))) (Next (elements_end s 1 pos))
-        ≡ Found offset size → 0 < offset
-    go true true h = let e : setting_at s pos ≡ offset = cc in omega arith
-    go true false h = absurd (let z : ◌≡◌ {A = ℕ} 0 1 = cc in omega arith)
-    go false b h = absurd (let z : ◌≡◌ {A = ℕ} 0 1 = cc in omega arith)
-
--- the code's answer, by its offset
-pub span-found : (p : Span) → 0 < p.offset → span_of p ≡ at p.offset p.length
-span-found p some = rw (ne_eqb p.offset 0 (λ e. omega arith))
-
-pub span_none : (p : Span) → p.offset ≤ 0 → span_of p ≡ nowhere
-span_none p none = rw (eq-eqb p.offset 0 (omega arith))

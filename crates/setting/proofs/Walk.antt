@@ -1,14 +1,16 @@
 -- The search by its first element: what that gives, and the search behind it.
 use Prim.Native.Nat.{ℕ, ◌+◌, ◌<◌}
-use mathlib.Core.Path.{◌≡◌, sym}
+use mathlib.Core.Path.{◌≡◌, sym, ap}
 use mathlib.Core.List.{List}
 use native.Mathlib.Omega.{arith}
 use lib.ListN.{length}
 use Rattle.list.specs.Kind.{list_code}
 use Rattle.list.specs.Tree.{Elements, none, value, list, count}
 use Rattle.list.specs.Bytes.{element_bytes}
+use Rattle.setting.specs.declared.entry.Span.{Span}
 use Rattle.setting.specs.declared.entry.Turn.{Turn}
-use Rattle.setting.specs.declared.entry.Turn.TheVariants.{Found, Next}
+use Rattle.setting.specs.declared.entry.Turn.TheVariants.{Next}
+use Rattle.setting.specs.Steps.{found_at}
 use Rattle.setting.specs.Entry.{Search, at, nowhere, or_else, entry_of, in_entry, search_from}
 
 -- the first element by itself, and those behind it
@@ -24,7 +26,7 @@ behind (list inner es) = es
 
 -- what the first element gives, by the tree
 abbrev pub or_next : Search → ℕ → Turn
-or_next (at offset size) next = Found offset size
+or_next (at offset size) next = found_at offset size
 or_next nowhere next = Next next
 
 abbrev pub first_of : List ℕ → ℕ → Elements → Search
@@ -36,15 +38,17 @@ abbrev pub next_of : ℕ → Elements → ℕ
 next_of pos es = pos + length (element_bytes list_code (alone es))
 
 -- a search is that in the first element, then that behind it
-pub search-found : (key : List ℕ) (pos : ℕ) (es : Elements) (offset size : ℕ) → or_next (first_of key pos es) (next_of pos es) ≡ Found offset size
+pub search-found : (key : List ℕ) (pos : ℕ) (es : Elements) (offset size : ℕ) → or_next (first_of key pos es) (next_of pos es) ≡ found_at offset size
     → search_from list_code key pos es ≡ at offset size
 unfolding search_from
 search-found key pos none offset size e = absurd (let z : ◌≡◌ {A = ℕ} 0 1 = cc in omega arith)
 search-found key pos (value v es) offset size e = absurd (let z : ◌≡◌ {A = ℕ} 0 1 = cc in omega arith)
 search-found key pos (list inner es) offset size e = go (in_entry key pos (entry_of inner)) e
   where
-    go : (x : Search) → or_next x (next_of pos (list inner es)) ≡ Found offset size → or_else x (search_from list_code key (next_of pos (list inner es)) es) ≡ at offset size
-    go (at o n) h = let p : o ≡ offset = cc in let q : n ≡ size = cc in rw (p, q)
+    go : (x : Search) → or_next x (next_of pos (list inner es)) ≡ found_at offset size → or_else x (search_from list_code key (next_of pos (list inner es)) es) ≡ at offset size
+    go (at o n) h =
+        let p : ◌≡◌ {A = Span} (record { offset = o; length = n }) (record { offset = offset; length = size }) = cc in
+        rw (ap (λ (span : Span). span.offset) p, ap (λ (span : Span). span.length) p)
     go nowhere h = absurd (let z : ◌≡◌ {A = ℕ} 0 1 = cc in omega arith)
 
 pub search-next : (key : List ℕ) (pos : ℕ) (es : Elements) (next : ℕ) → or_next (first_of key pos es) (next_of pos es) ≡ Next next → 0 < count es

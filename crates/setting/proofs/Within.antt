@@ -10,9 +10,9 @@ use Rattle.list.specs.Tree.{Elements}
 use Rattle.list.specs.Bytes.{list_bytes}
 use Rattle.list.specs.Legal.{Legal}
 use Rattle.list.specs.Parse.{Parsed, good, bad}
-use Rattle.setting.specs.declared.Located.{Located}
+use Rattle.setting.specs.declared.Owner.TheVariants.{Guest, House}
 use Rattle.setting.specs.Entry.{Search, at, nowhere, search_in}
-use Rattle.setting.specs.Lookup.{Finding, found, refused, missing, guest, house, choice, decided, lookup, numbers_of, answer, answer_of}
+use Rattle.setting.specs.Lookup.{Numbers, Finding, found, refused, missing, choice, decided, lookup, numbers_of, answer, answer_of}
 use Rattle.setting.specs.Meaning.{Meaning, is, unset, meaning}
 use Rattle.setting.specs.Steps.{Within, part_of, LookedUp}
 use Rattle.list_check.specs.Check.{whole}
@@ -48,19 +48,19 @@ module _ (g h key : List ℕ) (bg : Bytes g) (bh : Bytes h) where
       go (good es m) e (good fs n) f =
           chosen (search_in key es) (search_in key fs) (λ o k q. found_inside g key es m o k bg e q) (λ o k q. found_inside h key fs n o k bh f q)
 
-  pub looked-up : (l : Located) → l ≡ numbers_of (lookup g h key) → LookedUp g h key l
-  looked-up l e = record { is = e; within = subst (λ (x : Located). Within x (length g) (length h)) (sym e) located-within }
+  pub looked-up : (l : Numbers) → l ≡ numbers_of (lookup g h key) → LookedUp g h key l
+  looked-up l e = record { is = e; within = subst (λ (x : Numbers). Within x (length g) (length h)) (sym e) located-within }
 
 -- the numbers of an answer and the bytes of its part
-pub answered : (g h : List ℕ) (f : Finding) (l : Located) (p : List ℕ) → l ≡ numbers_of f → p ≡ part_of l g h
+pub answered : (g h : List ℕ) (f : Finding) (l : Numbers) (p : List ℕ) → l ≡ numbers_of f → p ≡ part_of l g h
     → answer l.error l.list l.offset p l.depth ≡ answer_of g h f
 answered g h f l p e d =
     ap (λ (x : List ℕ). answer l.error l.list l.offset x l.depth) d
-    ∙ ap (λ (x : Located). answer x.error x.list x.offset (part_of x g h) x.depth) e ∙ go f
+    ∙ ap (λ (x : Numbers). answer x.error x.list x.offset (part_of x g h) x.depth) e ∙ go f
   where
     go : (x : Finding) → answer (numbers_of x).error (numbers_of x).list (numbers_of x).offset (part_of (numbers_of x) g h) (numbers_of x).depth ≡ answer_of g h x
-    go (found guest o n) = refl
-    go (found house o n) = refl
-    go (refused guest r) = refl
-    go (refused house r) = refl
+    go (found Guest o n) = refl
+    go (found House o n) = refl
+    go (refused Guest r) = refl
+    go (refused House r) = refl
     go missing = refl

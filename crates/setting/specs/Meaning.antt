@@ -3,7 +3,9 @@ use Rattle.std.specs.Prelude.{ℕ, ◌+◌, ◌≤◌, ◌≡◌, cond, List, le
 use Rattle.wire.specs.Equal.{same}
 use Rattle.list.specs.Tree.{Elements, none, value, list}
 use Rattle.setting.specs.Entry.{Entry, entry, other, entry_of}
-use Rattle.setting.specs.Lookup.{Owner, guest, house, Finding, found, missing}
+use Rattle.setting.specs.declared.Owner.{Owner}
+use Rattle.setting.specs.declared.Owner.TheVariants.{Guest, House}
+use Rattle.setting.specs.Lookup.{Finding, found, missing}
 
 -- the value of a key, or that there is none
 pub data Meaning : Type 0 where
@@ -34,6 +36,6 @@ pub record FoundIn (o : Owner) (s v : List ℕ) (f : Finding) : Type 0 where
 
 -- what a lookup must find in two lists of these bytes, by what their trees say
 abbrev pub Right : Meaning → Meaning → List ℕ → List ℕ → Finding → Type 0
-Right (is v) m g h f = FoundIn guest g v f
-Right unset (is v) g h f = FoundIn house h v f
+Right (is v) m g h f = FoundIn Guest g v f
+Right unset (is v) g h f = FoundIn House h v f
 Right unset unset g h f = f ≡ missing

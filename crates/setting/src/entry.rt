@@ -11,17 +11,17 @@ use numbers::u32_at;
 // An entry is a list of strings, and of this many.
 const ENTRY_COUNT: u32 = 2;
 
-// Where the bytes of a value stand. The offset is 0 where there is no value: a list begins with its code.
-#[derive(Drop)]
+// Where the bytes of a value stand.
+#[derive(Clone, Copy)]
 pub struct Span {
     pub offset: usize,
     pub length: usize,
 }
 
-// What one element gives: the value of the key, or where the next element begins.
-#[derive(Drop)]
+// What one element gives: the value of the key, or where the next element begins. Neither is a refusal, so a Result is no plainer.
+#[derive(Clone, Copy)]
 pub enum Turn {
-    Found { offset: usize, length: usize },
+    Found(Span),
     Next(usize),
 }
 
@@ -49,15 +49,16 @@ fn entry_turn(s: &[u8], at: usize, key: &[u8]) -> Turn
     let value = second + NUMBER;
     let length = u32_at(&s[second..value], 0) as usize;
     if is_same(&s[first..second - TERMINATOR as usize], key) {
-        return Turn::Found {
+        return Turn::Found(Span {
             offset: value,
             length: length - TERMINATOR as usize,
-        };
+        });
     }
     Turn::Next(value + length)
 }
 
 // The element at an offset.
+#[tactic(auto, unfolding(crate::specs::Steps::turn_of))]
 fn element_turn(s: &[u8], at: usize, key: &[u8]) -> Turn
     requires { ElementHere s.now at }
     ensures { result ≡ turn_of s.now key.now at }
@@ -79,22 +80,17 @@ pub fn candidates(s: &[u8]) -> u32
 }
 
 // The value of the first entry with the key among n candidates.
-pub fn first_entry(s: &[u8], key: &[u8], n: u32) -> Span
+#[inline(never)]
+pub fn first_entry(s: &[u8], key: &[u8], n: u32) -> Option<Span>
     requires { IsWhole s.now × (n ≡ candidate_count s.now) × (0 < n) }
     ensures { span_of result ≡ search_area key.now s.now }
 {
-    let mut left = n;
     let mut pos: usize = 2 * NUMBER;
-    while 0 < left {
-        let t = element_turn(s, pos, key);
-        match t {
-            Turn::Found { offset, length } => return Span { offset, length },
+    for done in 0..n {
+        match element_turn(s, pos, key) {
+            Turn::Found(value) => return Some(value),
             Turn::Next(next) => pos = next,
         }
-        left -= 1;
     }
-    Span {
-        offset: 0,
-        length: 0,
-    }
+    None
 }

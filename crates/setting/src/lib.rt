@@ -4,161 +4,162 @@
 mod entry;
 mod same;
 
-ghost use Rattle.std.specs.Prelude.{◌≡◌, length};
+ghost use Rattle.std.specs.Prelude.{◌≡◌, [], MatchResult, Ok, Err, length};
+ghost use Rattle.errors.specs.Number as error;
 ghost use Rattle.list.specs.Refusal.{refusal_of};
 ghost use Rattle.list_check.specs.Check.{IsWhole};
-ghost use Rattle.setting.specs.Entry.{nowhere};
-ghost use Rattle.setting.specs.Lookup.{choice, lookup, found_in, refused_in, missing_key, numbers_of, answer, answer_of};
-ghost use Rattle.setting.specs.Steps.{search_area, Within, part_of, LookedUp};
+ghost use Rattle.setting.specs.Lookup.{choice, lookup, refused_in, number_of, list_number, numbers_of, numbers_in, answer, answer_of};
+ghost use Rattle.setting.specs.Steps.{search_area, span_of, Within, part_of, LookedUp};
 
 use entry::{Span, candidates, first_entry};
+use errors::Error;
 use list::Refusal;
 
-// Where the value of a key stands: the number of the refusal, 0 for none, the list, and there the offset and the length of
-// the value or the offset of the fault and how many lists are open at it.
+// Whose settings list it is.
+#[derive(Clone, Copy, Debug, PartialEq, Eq)]
+pub enum Owner {
+    Guest,
+    House,
+}
+
+impl Owner {
+    // The list's number in an answer to C.
+    pub fn number(self) -> u8
+        ensures { result ≡ number_of self }
+    {
+        match self {
+            Owner::Guest => 1,
+            Owner::House => 2,
+        }
+    }
+}
+
+// Where the value of a key stands: the list, and there the offset and the length of the value.
 #[derive(Clone, Copy)]
 pub struct Located {
-    pub error: u8,
-    pub list: u8,
+    pub list: Owner,
     pub offset: usize,
     pub length: usize,
+}
+
+// Why there is no value: the error, the list that is refused, if one is, and there the offset of the fault and how many lists
+// are open at it.
+#[derive(Clone, Copy)]
+pub struct Refused {
+    pub error: Error,
+    pub list: Option<Owner>,
+    pub offset: usize,
     pub depth: u8,
 }
 
-// The answer with the bytes of the value: the same numbers, with that part of the list in the place of the length.
-#[derive(Drop)]
+// The value of a key: the list, and there the offset and the bytes of the value.
+#[derive(Clone, Copy)]
 pub struct Setting<'g> {
-    pub error: u8,
-    pub list: u8,
+    pub list: Owner,
     pub offset: usize,
     pub part: &'g [u8],
-    pub depth: u8,
 }
 
-// The names of the lists in an answer, 0 for neither.
-const GUEST: u8 = 1;
-
-const HOUSE: u8 = 2;
-
-fn refused(list: u8, r: Refusal) -> Located
-    ensures { result ≡ refused_in list (refusal_of r) }
-{
-    Located {
-        error: r.error,
-        list,
-        offset: r.offset,
-        length: 0,
-        depth: r.depth,
+impl Refused {
+    fn of_list(list: Owner, r: Refusal) -> Refused
+        ensures { numbers_in (Err result) ≡ refused_in (number_of list) (refusal_of r) }
+    {
+        Refused {
+            error: r.error,
+            list: Some(list),
+            offset: r.offset,
+            depth: r.depth,
+        }
     }
 }
 
-fn found(list: u8, at: Span) -> Located
-    ensures { result ≡ found_in list at.offset at.length }
+// The value of the key in a list that was judged. Compiled into `choose`, so that a list without candidates costs no call.
+#[inline(always)]
+fn entry_in(s: &[u8], key: &[u8]) -> Option<Span>
+    requires { IsWhole s.now }
+    ensures { span_of result ≡ search_area key.now s.now }
 {
-    Located {
-        error: 0,
-        list,
-        offset: at.offset,
-        length: at.length,
-        depth: 0,
-    }
-}
-
-// 33: the key is in neither list.
-fn missing() -> Located
-    ensures { result ≡ missing_key }
-{
-    Located {
-        error: 33,
-        list: 0,
-        offset: 0,
-        length: 0,
-        depth: 0,
-    }
-}
-
-// The house's entry with the key, where the guest's list has none.
-fn choose_house(house: &[u8], key: &[u8]) -> Located
-    requires { IsWhole house.now }
-    ensures { result ≡ numbers_of (choice nowhere (search_area key.now house.now)) }
-{
-    let n = candidates(house);
+    let n = candidates(s);
     if n == 0 {
-        return missing();
+        return None;
     }
-    let at = first_entry(house, key, n);
-    if 0 < at.offset {
-        return found(HOUSE, at);
-    }
-    missing()
+    first_entry(s, key, n)
 }
 
 // Two lists that were judged: the guest's entry with the key, else the house's.
-fn choose(guest: &[u8], house: &[u8], key: &[u8]) -> Located
+fn choose(guest: &[u8], house: &[u8], key: &[u8]) -> Result<Located, Refused>
     requires { IsWhole guest.now × IsWhole house.now }
-    ensures { result ≡ numbers_of (choice (search_area key.now guest.now) (search_area key.now house.now)) }
+    ensures { numbers_in result ≡ numbers_of (choice (search_area key.now guest.now) (search_area key.now house.now)) }
 {
-    let n = candidates(guest);
-    if n == 0 {
-        return choose_house(house, key);
+    if let Some(at) = entry_in(guest, key) {
+        return Ok(Located {
+            list: Owner::Guest,
+            offset: at.offset,
+            length: at.length,
+        });
     }
-    let at = first_entry(guest, key, n);
-    if 0 < at.offset {
-        return found(GUEST, at);
+    if let Some(at) = entry_in(house, key) {
+        return Ok(Located {
+            list: Owner::House,
+            offset: at.offset,
+            length: at.length,
+        });
     }
-    choose_house(house, key)
+    Err(Refused {
+        error: Error::NoEntry,
+        list: None,
+        offset: 0,
+        depth: 0,
+    })
 }
 
 // Both lists are judged first, whichever has the key.
-fn look_up(guest: &[u8], house: &[u8], key: &[u8]) -> Located
-    ensures { LookedUp guest.now house.now key.now result }
+fn look_up(guest: &[u8], house: &[u8], key: &[u8]) -> Result<Located, Refused>
+    ensures { LookedUp guest.now house.now key.now (numbers_in result) }
 {
-    let g = list_check::fault(guest);
-    if 0 < g.error {
-        return refused(GUEST, g);
+    if let Err(r) = list_check::fault(guest) {
+        return Err(Refused::of_list(Owner::Guest, r));
     }
-    let h = list_check::fault(house);
-    if 0 < h.error {
-        return refused(HOUSE, h);
+    if let Err(r) = list_check::fault(house) {
+        return Err(Refused::of_list(Owner::House, r));
     }
     choose(guest, house, key)
 }
 
-// Where the value of a key stands, in numbers: in the guest's list, else in the house's.
-pub fn locate(guest: &[u8], house: &[u8], key: &[u8]) -> Located
-    ensures { result ≡ numbers_of (lookup guest.now house.now key.now) }
+// Where the value of a key stands: in the guest's list, else in the house's.
+pub fn locate(guest: &[u8], house: &[u8], key: &[u8]) -> Result<Located, Refused>
+    ensures { numbers_in result ≡ numbers_of (lookup guest.now house.now key.now) }
 {
     look_up(guest, house, key)
 }
 
 // That part of the list that an answer names. Both lists have one lifetime here.
 fn part<'g>(guest: &'g [u8], house: &'g [u8], at: Located) -> &'g [u8]
-    requires { Within at (length guest.now) (length house.now) }
-    ensures { result.now ≡ part_of at guest.now house.now }
+    requires { Within (numbers_in (Ok at)) (length guest.now) (length house.now) }
+    ensures { result.now ≡ part_of (numbers_in (Ok at)) guest.now house.now }
 {
     let first = at.offset;
-    if at.list == GUEST {
-        return &guest[first..first + at.length];
+    match at.list {
+        Owner::Guest => &guest[first..first + at.length],
+        Owner::House => &house[first..first + at.length],
     }
-    if at.list == HOUSE {
-        return &house[first..first + at.length];
-    }
-    &guest[0..0]
 }
 
-// The value of a key: that part of the guest's list, else that part of the house's, and empty on a refusal. Where `part` is
-// called, the house's list is taken at the shorter lifetime 'g.
-pub fn find<'g, 'h: 'g>(guest: &'g [u8], house: &'h [u8], key: &[u8]) -> Setting<'g>
-    ensures { answer result.error result.list result.offset result.part.now result.depth
-        ≡ answer_of guest.now house.now (lookup guest.now house.now key.now) }
+// The value of a key: that part of the guest's list, else that part of the house's. Where `part` is called, the house's list
+// is taken at the shorter lifetime 'g.
+pub fn find<'g, 'h: 'g>(
+    guest: &'g [u8],
+    house: &'h [u8],
+    key: &[u8],
+) -> Result<Setting<'g>, Refused>
+    ensures { MatchResult result
+        (λ s. answer 0 (number_of s.list) s.offset s.part.now 0 ≡ answer_of guest.now house.now (lookup guest.now house.now key.now))
+        (λ r. answer (error.number_of r.error) (list_number r.list) r.offset [] r.depth ≡ answer_of guest.now house.now (lookup guest.now house.now key.now)) }
 {
-    let at = look_up(guest, house, key);
-    let part = part(guest, house, at);
-    Setting {
-        error: at.error,
+    let at = look_up(guest, house, key)?;
+    Ok(Setting {
         list: at.list,
         offset: at.offset,
-        part,
-        depth: at.depth,
-    }
+        part: part(guest, house, at),
+    })
 }

@@ -12,17 +12,15 @@ fn is_same_from(a: &[u8], b: &[u8], from: usize) -> bool
     requires { (length a.now ≡ length b.now) × (from ≤ length a.now) }
     ensures { result ≡ same (drop from a.now) (drop from b.now) }
 {
-    let mut i = from;
-    while i < a.len() {
+    for i in from..a.len() {
         if a[i] != b[i] {
             return false;
         }
-        i += 1;
     }
     true
 }
 
-// Word by word, then what is left. A word is read from a part of its size, so that it needs no test.
+// Word by word, which takes fewer instructions than byte by byte, then what is left. A word is read from a part of its size, so that it needs no test.
 pub fn is_same(a: &[u8], b: &[u8]) -> bool
     ensures { result ≡ same a.now b.now }
 {

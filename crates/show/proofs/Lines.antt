@@ -3,6 +3,7 @@ use Prim.Native.Nat.{ℕ, ◌+◌, ◌*◌, ◌≤◌}
 use mathlib.Core.Bool.{Bool, true, false, cond}
 use mathlib.Core.Path.{◌≡◌, refl, sym, ap, ◌∙◌}
 use mathlib.Core.List.{List, ◌++◌, append_assoc}
+use Rattle.std.specs.Prelude.{Result, Ok, Err}
 use native.Mathlib.Omega.{arith}
 use lib.ListN.{length, take, drop, length-append, length-drop}
 use lib.Seq.{take_at, length-take-le}
@@ -13,8 +14,8 @@ use Rattle.list.specs.Tree.{Elements}
 use Rattle.list.specs.Bytes.{list_bytes}
 use Rattle.list.specs.Legal.{Legal}
 use Rattle.list_rows.specs.Judge.{Verdict, accepted, refused, to_write}
-use Rattle.list_encode.specs.declared.Encoded.{Encoded}
-use Rattle.list_encode.specs.declared.Encoded.TheVariants.{Written, Refused}
+use Rattle.errors.specs.declared.Error.{Error}
+use Rattle.errors.specs.Number.{number_of}
 use Rattle.list_encode.specs.Encode.{Outcome, outcome, result_of, written}
 use Rattle.list_encode.specs.Encode as writer
 use Rattle.stream.proofs.Runs.{some_bytes}
@@ -57,7 +58,7 @@ part-added old x used k h =
     record { front = ap (take (used + length x)) whole ∙ take_at (take used old ++ x) (rest ++ post_of used k old) (used + length x) size; size = refl }
 
 -- what text writing leaves in a part of the output that has the room that it asks for
-module _ (rows store old area : List ℕ) (used k : ℕ) (es : Elements) (a : Encoded) (legal : Legal list_limit es) (writes : to_write rows store ≡ accepted es)
+module _ (rows store old area : List ℕ) (used k : ℕ) (es : Elements) (a : Result ℕ Error) (legal : Legal list_limit es) (writes : to_write rows store ≡ accepted es)
     (h : used + k ≤ length old) (room : text_room ≤ k) (o : outcome (result_of a) area ≡ encoding_of rows store (mid_of used k old)) where
   part-size : length (mid_of used k old) ≡ k
   part-size = length-take-le k (drop used old) (omega (arith, length-drop used old))
@@ -68,7 +69,7 @@ module _ (rows store old area : List ℕ) (used k : ℕ) (es : Elements) (a : En
   answered : outcome (result_of a) area ≡ answer (all_have_form es)
   answered = o ∙ after-room rows store (mid_of used k old) (omega (arith, part-size)) ∙ rw writes
 
-  pub text-added : (n : ℕ) → a ≡ Written n → (all_have_form es ≡ true) × (n ≤ text_room) × Added old used (put_mid used k old area) (used + n) (list_text es)
+  pub text-added : (n : ℕ) → a ≡ Ok n → (all_have_form es ≡ true) × (n ≤ text_room) × Added old used (put_mid used k old area) (used + n) (list_text es)
   text-added n e = go (all_have_form es) refl answered (ap result_of (sym e) ∙ ap (λ (z : Outcome). z.result) answered)
     where
       go : (b : Bool) → all_have_form es ≡ b → outcome (result_of a) area ≡ answer b → written n ≡ (answer b).result
@@ -79,11 +80,11 @@ module _ (rows store old area : List ℕ) (used k : ℕ) (es : Elements) (a : En
           (f, omega (arith, text-short es legal f, legal.1), rw (count, holds) (part-added old (list_text es) used k h))
       go false f w t = absurd (let z : ◌≡◌ {A = ℕ} 0 1 = cc in omega arith)
 
-  pub area-kept : (n : ℕ) → a ≡ Refused n → (all_have_form es ≡ false) × (n ≡ formless) × (put_mid used k old area ≡ old)
-  area-kept n e = go (all_have_form es) refl answered (ap result_of (sym e) ∙ ap (λ (z : Outcome). z.result) answered)
+  pub area-kept : (error : Error) → a ≡ Err error → (all_have_form es ≡ false) × (number_of error ≡ formless) × (put_mid used k old area ≡ old)
+  area-kept error e = go (all_have_form es) refl answered (ap result_of (sym e) ∙ ap (λ (z : Outcome). z.result) answered)
     where
-      go : (b : Bool) → all_have_form es ≡ b → outcome (result_of a) area ≡ answer b → writer.refused n ≡ (answer b).result
-          → (all_have_form es ≡ false) × (n ≡ formless) × (put_mid used k old area ≡ old)
+      go : (b : Bool) → all_have_form es ≡ b → outcome (result_of a) area ≡ answer b → writer.refused (number_of error) ≡ (answer b).result
+          → (all_have_form es ≡ false) × (number_of error ≡ formless) × (put_mid used k old area ≡ old)
       go true f w t = absurd (let z : ◌≡◌ {A = ℕ} 0 1 = cc in omega arith)
       go false f w t =
           let holds : area ≡ mid_of used k old = ap (λ (z : Outcome). z.buffer) w in

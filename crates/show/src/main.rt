@@ -16,15 +16,13 @@ ghost use Rattle.show.specs.Text.{text_line, line_of, shown};
 ghost use Rattle.show.specs.Held.{Held};
 
 use list::{ROW, ROW_BYTES, STORE_ROOM};
-use list_encode::Encoded;
+use list_decode::Decoded;
+use output::Output;
 use report::INPUT_LIMIT;
-use stream::Step;
 use text::TEXT_ROOM;
 
-// The numbers of the standard streams.
+// The number of the standard input.
 const STDIN_FILENO: i32 = 0;
-
-const STDOUT_FILENO: i32 = 1;
 
 // A line has at most four characters for each byte of its list; behind the lines, the room that text writing asks for.
 const LINES_ROOM: usize = 4 * INPUT_LIMIT + TEXT_ROOM;
@@ -35,69 +33,77 @@ fn main() {
     let n = io::read_full(STDIN_FILENO, &mut input);
     let mut rows = [0u8; ROW_BYTES];
     let mut store = [0u8; STORE_ROOM];
-    let mut text = [0u8; LINES_ROOM];
-    let used = report(&input[..n], &mut rows, &mut store, &mut text);
-    io::write_all(STDOUT_FILENO, &text[..used]);
+    let mut out = Output::<LINES_ROOM>::new();
+    report(&input[..n], &mut rows, &mut store, &mut out);
+    out.flush();
 }
 
-// What is printed for the bytes that were read; answers the bytes of text.
-fn report(bytes: &[u8], rows: &mut [u8], store: &mut [u8], text: &mut [u8]) -> usize
-    requires { (length rows.old ≡ 4 * row_room) × (length store.old ≡ store_room) × (length text.old ≡ lines_room) }
-    ensures { (take result text.new ≡ shown bytes.now) × IsPrefixLen result text.new }
+// What is printed for the bytes that were read.
+fn report(
+    bytes: &[u8],
+    rows: &mut [u8; ROW_BYTES],
+    store: &mut [u8; STORE_ROOM],
+    out: &mut Output<LINES_ROOM>,
+)
+    requires { (length out.old.buffer ≡ lines_room) × (out.old.used ≡ 0) }
+    ensures { (take out.new.used out.new.buffer ≡ shown bytes.now) × (out.new.used ≤ length out.new.buffer) }
 {
     if report::is_too_long(bytes) {
-        return report::put_too_long(text, 0);
+        report::put_too_long(out);
+        return;
     }
-    stream_text(bytes, rows, store, text)
+    stream_text(bytes, rows, store, out)
 }
 
 // All lines of a stream.
-fn stream_text(bytes: &[u8], rows: &mut [u8], store: &mut [u8], text: &mut [u8]) -> usize
-    requires { (length bytes.now ≤ input_limit) × (length rows.old ≡ 4 * row_room) × (length store.old ≡ store_room) × (length text.old ≡ lines_room) }
-    ensures { (take result text.new ≡ text_of line_of bytes.now) × IsPrefixLen result text.new }
+fn stream_text(
+    bytes: &[u8],
+    rows: &mut [u8; ROW_BYTES],
+    store: &mut [u8; STORE_ROOM],
+    out: &mut Output<LINES_ROOM>,
+)
+    requires { (length bytes.now ≤ input_limit) × (length out.old.buffer ≡ lines_room) × (out.old.used ≡ 0) }
+    ensures { (take out.new.used out.new.buffer ≡ text_of line_of bytes.now) × (out.new.used ≤ length out.new.buffer) }
 {
     let mut offset: usize = 0;
-    let mut used: usize = 0;
+    // Where the next list stands is known when one is read, and a refusal ends the way as an end does: no `for` goes so.
     loop {
-        let step = stream::next(bytes, offset, rows, store);
-        match step {
-            Step::List {
-                consumed,
-                rows: m,
-                stored,
-            } => {
-                used = list_line(rows, m as usize, store, stored, text, used);
-                offset += consumed;
+        match stream::next(bytes, offset, rows, store) {
+            Ok(Some(list)) => {
+                put_list(rows, store, list, out);
+                offset += list.consumed;
             }
-            Step::End => return report::put_end(text, used, offset),
-            Step::Refused(refusal) => return report::put_stop(text, used, refusal),
+            Ok(None) => return report::put_end(out, offset),
+            Err(refusal) => return report::put_stop(out, refusal),
         }
     }
 }
 
-// The line of the list whose m rows and store bytes stand at the front of their areas.
-fn list_line(
-    rows: &[u8],
-    m: usize,
-    store: &[u8],
-    stored: usize,
-    text: &mut [u8],
-    used: usize,
-) -> usize
-    requires { ((es : Elements) × Held rows.now m store.now stored es) × (used + text_room + 1 ≤ length text.old) }
-    ensures { (es : Elements) → Held rows.now m store.now stored es → Added text.old used text.new result (text_line es) }
+// The line of a list whose rows and store bytes stand at the front of their areas.
+fn put_list(rows: &[u8], store: &[u8], list: Decoded, out: &mut Output<LINES_ROOM>)
+    requires { ((es : Elements) × Held rows.now list.rows store.now list.stored es) × (out.old.used + text_room + 1 ≤ length out.old.buffer) }
+    ensures line { (es : Elements) → Held rows.now list.rows store.now list.stored es → Added out.old.buffer out.old.used out.new.buffer out.new.used (text_line es) }
+    ensures room { length out.new.buffer ≡ length out.old.buffer }
 {
-    text_line(&rows[..ROW * m], &store[..stored], text, used)
+    put_text(
+        &rows[..ROW * list.rows as usize],
+        &store[..list.stored],
+        out,
+    );
 }
 
 // The line of the list that rows and store describe.
-fn text_line(rows: &[u8], store: &[u8], text: &mut [u8], used: usize) -> usize
-    requires { ((es : Elements) × (Legal list_limit es × (to_write rows.now store.now ≡ accepted es))) × (used + text_room + 1 ≤ length text.old) }
-    ensures { (es : Elements) → to_write rows.now store.now ≡ accepted es → Added text.old used text.new result (text_line es) }
+fn put_text(rows: &[u8], store: &[u8], out: &mut Output<LINES_ROOM>)
+    requires { ((es : Elements) × (Legal list_limit es × (to_write rows.now store.now ≡ accepted es))) × (out.old.used + text_room + 1 ≤ length out.old.buffer) }
+    ensures line { (es : Elements) → to_write rows.now store.now ≡ accepted es → Added out.old.buffer out.old.used out.new.buffer out.new.used (text_line es) }
+    ensures room { length out.new.buffer ≡ length out.old.buffer }
 {
-    let encoded = text_encode::encode(rows, store, &mut text[used..used + TEXT_ROOM]);
-    match encoded {
-        Encoded::Written(n) => output::put(text, used + n, b"\n"),
-        Encoded::Refused(error) => output::put_line(text, used, b"refused ", error as u64),
+    let end = out.used + TEXT_ROOM;
+    match text_encode::encode(rows, store, &mut out.buffer[out.used..end]) {
+        Ok(n) => {
+            out.used += n;
+            out.put(b"\n");
+        }
+        Err(error) => out.put_line(b"refused ", error.number() as u64),
     }
 }

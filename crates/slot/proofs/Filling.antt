@@ -1,15 +1,18 @@
 -- Laws of lists that are filled index by index, of bytes that are put into a list, and of what stays beside them.
 use Prim.Native.Nat.{ℕ, zero, suc, ◌+◌, ◌*◌, ◌≤◌, ◌<◌, ◌^◌}
-use mathlib.Core.Path.{◌≡◌, refl, sym, ap, ◌∙◌}
+use mathlib.Core.Path.{◌≡◌, refl, sym, ap, subst, ◌∙◌}
 use mathlib.Core.Bool.{Bool, true, false}
 use mathlib.Core.List.{List, [], ◌∷◌, ◌++◌, append_assoc}
 use mathlib.Core.Logic.{◌⊎◌, inl, inr, ⊎_elim}
 use native.Mathlib.Numerals.{add-one}
 use native.Mathlib.Nat.{zero-add, suc-add, eq-or-lt_of_le, pow-succ'}
 use native.Mathlib.Omega.{arith}
+use denote.Param.Members.{Mut}
+use Rattle.std.specs.Fn.{Called}
+use Rattle.std.specs.Array.{IsFromFnResult, IsFromFnResultFrom}
 use lib.Dec.{leb}
 use lib.ListN.{length, take, drop, get_or, set, length-append, length-drop, get_or-append}
-use lib.Seq.{take-suc, take-suc-set, take_all, take-add, sets, sets-eq, length-sets, take_at, drop_at, take-nil, take-set-le}
+use lib.Seq.{take-suc-set, take-suc, take_all, take-add, sets, sets-eq, length-sets, take_at, drop_at, take-nil, take-set-le}
 use lib.Seq.{drop-set-lt, take-append-le, drop-append-le, get_or_at, get_or-set_other, length-take-le, ext_get_or}
 use borrow.Author.Tests.{leb-true, leb-false}
 use Rattle.wire.specs.Every.{every}
@@ -69,6 +72,22 @@ same-each n d l m p q e = ext_get_or d l m (p ∙ sym q) (λ k b. e k (omega ari
 -- a list of n elements is what its own indices give
 pub tabulate-self : {A : Type 0} (n : ℕ) (d : A) (l : List A) (f : ℕ → A) → length l ≡ n → ((k : ℕ) → k < n → f k ≡ get_or l k d) → tabulate n f ≡ l
 tabulate-self n d l f h e = same-each n d (tabulate n f) l (length-tabulate n f) h (λ k b. get_d_tabulate n f k d b ∙ e k b)
+
+-- an array that is made from the index is what its indices give, where each call of the closure gives that and changes nothing
+pub made :
+    {F A : Type 0} (g : Mut F (ℕ × Unit {0}) A) (f : F) (n : ℕ) (d : A) (h : ℕ → A) (ys : List A) → IsFromFnResult g f ys n →
+    ((i : ℕ) (y : A) (q : F) → Called g f (i, tt) y q → (q ≡ f) × (y ≡ h i)) → ys ≡ tabulate n h
+made {F} {A} g f n d h ys r call = sym (tabulate-self n d ys h r.long (λ k l. sym (go n 0 f refl r.each k (omega arith) (omega arith))))
+  where
+    go :
+        (m i : ℕ) (p : F) → p ≡ f → IsFromFnResultFrom g p ys i m → (k : ℕ) → i ≤ k → k < i + m → get_or ys k d ≡ h k
+    go zero i p e r k l u = absurd (omega arith)
+    go (suc m) i p e r k l u =
+        let c = call i r.1 r.0 (subst (λ (x : F). Called g x (i, tt) r.1 r.0) e r.3) in
+        ⊎_elim
+        (λ (x : i ≡ k). rw (← x) (r.2.1 d ∙ c.1))
+        (λ (x : i < k). go m (i + 1) r.0 c.0 r.4 k (omega arith) (omega arith))
+        (eq-or-lt_of_le l)
 
 -- the front of a list is what its own indices give
 pub tabulate-front :

@@ -29,7 +29,7 @@ const BITS: usize = 44;
 const WORD: usize = 4;
 
 // A device's row: for each parameter whether a value is held, and its bits. The UID is a number, low byte first in packets
-// and lists, so that two of them are compared at once.
+// and lists, so that two of them are compared at once. Its two arrays stay: DECISIONS, "Forms that 01 names".
 #[derive(Clone, Copy)]
 pub struct Slot {
     pub taken: bool,
@@ -41,7 +41,8 @@ pub struct Slot {
     pub bits: [u32; MAX_PARAMETERS],
 }
 
-// A row without its values: small, so that a search reads it in registers.
+// A row without its values: small, so that a search reads it in registers. Its flag
+// stays, since it is a Slot's head field by field, as `head_of` says.
 #[derive(Clone, Copy)]
 pub struct Head {
     pub taken: bool,

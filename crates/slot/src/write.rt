@@ -1,11 +1,12 @@
 // Rows that are made, and put into a table's bytes.
 ghost use Rattle.std.specs.Prelude.{◌≡◌, true};
 ghost use Rattle.slot.specs.Slot.{fresh_slot, empty_slot};
-ghost use Rattle.slot.specs.Row.{flag_byte, head_bytes, flag_bytes, word_bytes};
+ghost use Rattle.slot.specs.Row.{head_bytes, flag_bytes, word_bytes};
 ghost use Rattle.slot.specs.Rows.{with_slot, held_in};
 
 use crate::{BITS, PRESENT, SLOT_BYTES, Slot, WORD};
 use catalogue::MAX_PARAMETERS;
+use std::array;
 
 // A row with no values held: every row is made here.
 fn fresh_slot(taken: bool, socket: u8, device: u8, year: u8, uid: u64) -> Slot
@@ -35,21 +36,12 @@ pub fn empty_slot() -> Slot
     fresh_slot(false, 0, 0, 0, 0)
 }
 
-fn flag(b: bool) -> u8
-    ensures { result ≡ flag_byte b }
-{
-    if b {
-        return 1;
-    }
-    0
-}
-
 fn head_bytes(taken: bool, socket: u8, device: u8, year: u8, uid: u64) -> [u8; PRESENT]
     ensures { result ≡ head_bytes taken socket device year uid }
 {
     let u = numbers::bytes64(uid);
     [
-        flag(taken),
+        u8::from(taken),
         socket,
         device,
         year,
@@ -67,23 +59,15 @@ fn head_bytes(taken: bool, socket: u8, device: u8, year: u8, uid: u64) -> [u8; P
 fn flag_bytes(present: [bool; MAX_PARAMETERS]) -> [u8; MAX_PARAMETERS]
     ensures { result ≡ flag_bytes present }
 {
-    let mut bytes = [0u8; MAX_PARAMETERS];
-    let mut i: usize = 0;
-    while i < MAX_PARAMETERS {
-        bytes[i] = flag(present[i]);
-        i += 1;
-    }
-    bytes
+    array::from_fn(|p: usize| u8::from(present[p]))
 }
 
 fn word_bytes(bits: [u32; MAX_PARAMETERS]) -> [u8; WORD * MAX_PARAMETERS]
     ensures { result ≡ word_bytes bits }
 {
     let mut bytes = [0u8; WORD * MAX_PARAMETERS];
-    let mut i: usize = 0;
-    while i < MAX_PARAMETERS {
-        numbers::put_u32(&mut bytes, WORD * i, bits[i]);
-        i += 1;
+    for p in 0..MAX_PARAMETERS {
+        numbers::put_u32(&mut bytes, WORD * p, bits[p]);
     }
     bytes
 }

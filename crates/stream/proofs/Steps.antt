@@ -17,7 +17,6 @@ use Rattle.list.specs.Refusal.{Refusal, refusal, moved}
 use Rattle.list.specs.Parse.{Parsed, good, bad, parse}
 use Rattle.list.proofs.RowBytes.{room-bytes}
 use Rattle.list.proofs.Sound.{within}
-use Rattle.list_decode.specs.declared.Decoded.{Decoded}
 use Rattle.list_decode.specs.Decode as decode
 use Rattle.list_decode.specs.Decode.{Outcome, outcome, Reading, roomy, answered, decoding_of, reading_of}
 use Rattle.stream.specs.Step.{Found, accepted, ended, refused, from_front, answered_by, step_of}
@@ -74,18 +73,18 @@ module _ (s : List ℕ) (offset : ℕ) (rows store : List ℕ) where
     step-fault f e = step-parsed (bad f) e
 
     -- by what list reading answered for the bytes that `&bytes[offset..]` lends
-    module _ (d x : Decoded) (is : d ≡ x) (rows' store' : List ℕ)
-        (o : outcome (reading_of d) rows' store' ≡ decoding_of (take (length s - offset) (drop offset s)) rows store) where
-      read : outcome (reading_of x) rows' store' ≡ decoding_of (drop offset s) rows store
+    module _ (d : Reading) (rows' store' : List ℕ)
+        (o : outcome d rows' store' ≡ decoding_of (take (length s - offset) (drop offset s)) rows store) where
+      read : outcome d rows' store' ≡ decoding_of (drop offset s) rows store
       read =
           let all = take_all (length s - offset) (drop offset s) (omega (arith, length-drop offset s)) in
-          ap (λ (z : Decoded). outcome (reading_of z) rows' store') (sym is) ∙ o ∙ ap (λ (z : List ℕ). decoding_of z rows store) all
+          o ∙ ap (λ (z : List ℕ). decoding_of z rows store) all
 
-      pub step-read : outcome (from_front offset (reading_of x)) rows' store' ≡ step_of s offset rows store
+      pub step-read : outcome (from_front offset d) rows' store' ≡ step_of s offset rows store
       step-read = ap (answered_by (from_front offset)) read ∙ sym step_in
 
       -- a refusal's offset is not past the end
-      pub read-within : offset + fault_of (reading_of x) ≤ length s
+      pub read-within : offset + fault_of d ≤ length s
       read-within = omega (arith, ap (λ (z : Outcome Reading). fault_of z.answer) read, fault-within (drop offset s) rows store, length-drop offset s)
 
 -- a step by cases: what holds of each of its outcomes holds of it

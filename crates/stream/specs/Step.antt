@@ -1,10 +1,10 @@
 -- One step of reading a stream of lists: what it answers, and what the lent rows and store hold afterwards.
-use Rattle.std.specs.Prelude.{ℕ, cond, List, eqb, ltb, length, drop}
+use Rattle.std.specs.Prelude.{ℕ, cond, List, eqb, ltb, length, drop, Option, Some, None, Result, Ok, Err}
+use Rattle.list.specs.declared.Refusal as code
 use Rattle.list.specs.Refusal.{Refusal, refusal, moved, refusal_of}
+use Rattle.list_decode.specs.declared.Decoded.{Decoded}
 use Rattle.list_decode.specs.Decode as decode
 use Rattle.list_decode.specs.Decode.{Outcome, outcome, Reading, roomy, decoding_of}
-use Rattle.stream.specs.declared.Step.{Step}
-use Rattle.stream.specs.declared.Step.TheVariants as step
 
 -- what a step finds: "bytes taken and rows filled" and the store bytes in use, the run's "end", or the refusal with "the place of the item at fault"
 -- and "the number of lists open at the fault"
@@ -34,7 +34,7 @@ step_of s offset rows store =
     (outcome (refused (refusal 20 0)) rows store)
 
 -- what the code's answer says
-abbrev pub found_of : Step → Found
-found_of (step.List consumed rows stored) = accepted consumed rows stored
-found_of step.End = ended
-found_of (step.Refused r) = refused (refusal_of r)
+abbrev pub found_of : Result (Option Decoded) code.Refusal → Found
+found_of (Ok (Some d)) = accepted d.consumed d.rows d.stored
+found_of (Ok None) = ended
+found_of (Err r) = refused (refusal_of r)

@@ -5,59 +5,44 @@ ghost use Rattle.std.specs.Prelude.{◌≡◌};
 ghost use Rattle.list_decode.specs.Decode.{outcome};
 ghost use Rattle.stream.specs.Step.{found_of, step_of};
 
+use errors::Error;
 use list::{ROW_BYTES, Refusal, STORE_ROOM};
 use list_decode::Decoded;
 
-// What a step answers. Offsets are counted from the front of the stream.
-#[derive(Drop)]
-pub enum Step {
-    List {
-        consumed: usize,
-        rows: u32,
-        stored: usize,
-    },
-    End,
-    Refused(Refusal),
-}
-
-// The list at an offset, its rows and its store bytes. A refused step and the end leave both buffers as they are.
+// The list at an offset, its rows and its store bytes, or no list at the end of the stream; offsets are counted from the
+// stream's front. A refused step and the end leave both buffers as they are.
 // "A run step: 20, a place past the end, the end, then the list."
-pub fn next(bytes: &[u8], offset: usize, rows: &mut [u8], store: &mut [u8]) -> Step
+pub fn next(
+    bytes: &[u8],
+    offset: usize,
+    rows: &mut [u8],
+    store: &mut [u8],
+) -> Result<Option<Decoded>, Refusal>
     ensures { outcome (found_of result) rows.new store.new ≡ step_of bytes.now offset rows.old store.old }
 {
     let enough = (ROW_BYTES <= rows.len()) & (STORE_ROOM <= store.len());
     if !enough {
-        return Step::Refused(Refusal {
-            error: 20,
+        return Err(Refusal {
+            error: Error::NoRoom,
             offset: 0,
             depth: 0,
         });
     }
     if bytes.len() < offset {
-        return Step::Refused(Refusal {
-            error: 21,
+        return Err(Refusal {
+            error: Error::CutShort,
             offset,
             depth: 0,
         });
     }
     if offset == bytes.len() {
-        return Step::End;
+        return Ok(None);
     }
-    let decoded = list_decode::decode(&bytes[offset..], rows, store);
-    match decoded {
-        Decoded::List {
-            consumed,
-            rows: n,
-            stored,
-        } => Step::List {
-            consumed,
-            rows: n,
-            stored,
-        },
-        Decoded::Refused(refusal) => {
-            let mut r = refusal;
-            r.offset = offset + r.offset;
-            Step::Refused(r)
-        }
+    match list_decode::decode(&bytes[offset..], rows, store) {
+        Ok(list) => Ok(Some(list)),
+        Err(r) => Err(Refusal {
+            offset: offset + r.offset,
+            ..r
+        }),
     }
 }

@@ -1,21 +1,19 @@
 -- What calls answer and do to a table.
-use Rattle.std.specs.Prelude.{ℕ, List}
+use Rattle.std.specs.Prelude.{ℕ, List, Option, Some, None, Result, Ok, Err}
+use Rattle.errors.specs.Number.{number_of}
+use Rattle.errors.specs.declared.Error.{Error}
 use Rattle.slot.specs.Rows.{with_slot}
 use Rattle.slot.specs.declared.Slot.{Slot}
-use Rattle.table.specs.declared.Place.{Place}
-use Rattle.table.specs.declared.Place.TheVariants.{At, Nowhere}
-use Rattle.table.specs.declared.Answer.{Answer}
-use Rattle.table.specs.declared.Answer.TheVariants.{Accepted, Refused}
 
 -- what a call's answer says: accepted, or "Each refusal returns its number"
 pub data Verdict : Type 0 where
   accepted : Verdict
   refused : (number : ℕ) → Verdict
 
--- the number for each case of the answer
-abbrev pub verdict_of : Answer → Verdict
-verdict_of Accepted = accepted
-verdict_of (Refused number) = refused number
+-- the verdict for each case of the answer, a refusal with its number
+abbrev pub verdict_of : Result (Unit {0}) Error → Verdict
+verdict_of (Ok u) = accepted
+verdict_of (Err e) = refused (number_of e)
 
 -- a verdict beside the table afterwards
 pub record Effect : Type 0 where
@@ -37,9 +35,9 @@ pub data Change : Type 0 where
 
 -- the table where the change is for this place; where that is no slot nothing changes (an ACK, DEVICE_DATA and a leave that change
 -- a row have a slot)
-abbrev pub changed_at : List ℕ → Place → Change → Effect
-changed_at t (At i) (becomes row) = acceptance (with_slot t i row)
-changed_at t Nowhere (becomes row) = acceptance t
+abbrev pub changed_at : List ℕ → Option ℕ → Change → Effect
+changed_at t (Some i) (becomes row) = acceptance (with_slot t i row)
+changed_at t None (becomes row) = acceptance t
 changed_at t p (denied number) = refusal t number
 
 -- what a call does, where it is not refused first

@@ -10,17 +10,3 @@ pub use places::{find_slot, free_slot};
 pub const SLOTS: usize = 4;
 
 pub const SOCKETS: u8 = 8;
-
-// Which slot.
-#[derive(Drop)]
-pub enum Place {
-    At(usize),
-    Nowhere,
-}
-
-// A call's answer: accepted, or refused with its error number.
-#[derive(Drop)]
-pub enum Answer {
-    Accepted,
-    Refused(u8),
-}

@@ -14,6 +14,7 @@ use Rattle.list.specs.Kind.{code_of, list_code}
 use Rattle.list.specs.Tree.{kind}
 use Rattle.list.specs.Bytes.{value_bytes, common}
 use Rattle.list.proofs.RowBound.{value-size}
+use Rattle.std.specs.Prelude.{Some}
 use Rattle.digits.specs.Read.{Read, got, wrong, and_read}
 use Rattle.text.specs.Tokens.{Token, opening, closing, item, opens}
 use Rattle.text_check.specs.declared.token.TokenRead.{TokenRead}
@@ -196,7 +197,7 @@ module _ (c : code.Tally) (k : Kept c) where
 
 -- A TOKEN THAT WAS READ
 -- the code's tally behind a token stands for the definition's
-pub stands_after : (c : code.Tally) (t : Tally) (r : TokenRead) (token : Token) (n : ℕ) → StandsFor c t → token_of r ≡ got (shape_of token) n
+pub stands_after : (c : code.Tally) (t : Tally) (r : TokenRead) (token : Token) (n : ℕ) → StandsFor c t → token_of (Some r) ≡ got (shape_of token) n
     → StandsFor (counter_after c r) (with_token t token)
 stands_after c t (read.Open count) opening n s e = stands-open c t s
 stands_after c t (read.Open count) closing n s e = absurd (let z : ◌≡◌ {A = ℕ} 0 1 = cc in omega arith)
@@ -210,10 +211,9 @@ stands_after c t (read.Value code payload count) (item v) n s e =
     let p : payload ≡ at_most (length (value_bytes v)) = cc in
     let q : code ≡ code_of (kind v) = cc in
     rw (q, p) (stands-value c t s (code_of (kind v)) (length (value_bytes v)))
-stands_after c t read.Wrong token n s e = absurd (let z : ◌≡◌ {A = ℕ} 0 1 = cc in omega arith)
 
 -- its sums stay small
-pub kept-after : (c : code.Tally) (r : TokenRead) (token : Token) (n : ℕ) → Kept c → token_of r ≡ got (shape_of token) n → Kept (counter_after c r)
+pub kept-after : (c : code.Tally) (r : TokenRead) (token : Token) (n : ℕ) → Kept c → token_of (Some r) ≡ got (shape_of token) n → Kept (counter_after c r)
 kept-after c (read.Open count) token n k e = kept-open c k
 kept-after c read.Close token n k e = kept-close c k
 kept-after c (read.Value code payload count) opening n k e = absurd (let z : ◌≡◌ {A = ℕ} 0 1 = cc in omega arith)
@@ -221,7 +221,6 @@ kept-after c (read.Value code payload count) closing n k e = absurd (let z : ◌
 kept-after c (read.Value code payload count) (item v) n k e =
     let p : payload ≡ at_most (length (value_bytes v)) = cc in
     rw p (kept-value c k code (length (value_bytes v)) (omega (arith, value-size v)))
-kept-after c read.Wrong token n k e = k
 
 -- its depth grows by one at most
 value-depth : (c : code.Tally) (code payload : ℕ) → (counter_value c code payload).depth ≡ c.depth
@@ -239,10 +238,9 @@ pub depth-after : (c : code.Tally) (r : TokenRead) → (counter_after c r).depth
 depth-after c (read.Open count) = omega arith
 depth-after c read.Close = omega arith
 depth-after c (read.Value code payload count) = omega (arith, value-depth c code payload)
-depth-after c read.Wrong = omega arith
 
 -- whether it opens a list
-pub opens-after : (r : TokenRead) (token : Token) (n : ℕ) → token_of r ≡ got (shape_of token) n → opens_of r ≡ opens token
+pub opens-after : (r : TokenRead) (token : Token) (n : ℕ) → token_of (Some r) ≡ got (shape_of token) n → opens_of r ≡ opens token
 opens-after (read.Open count) opening n e = refl
 opens-after (read.Open count) closing n e = absurd (let z : ◌≡◌ {A = ℕ} 0 1 = cc in omega arith)
 opens-after (read.Open count) (item v) n e = absurd (let z : ◌≡◌ {A = ℕ} 0 1 = cc in omega arith)
@@ -252,13 +250,11 @@ opens-after read.Close (item v) n e = refl
 opens-after (read.Value code payload count) opening n e = absurd (let z : ◌≡◌ {A = ℕ} 0 1 = cc in omega arith)
 opens-after (read.Value code payload count) closing n e = refl
 opens-after (read.Value code payload count) (item v) n e = refl
-opens-after read.Wrong token n e = absurd (let z : ◌≡◌ {A = ℕ} 0 1 = cc in omega arith)
 
 -- what is asked of a payload
-pub payload-after : (r : TokenRead) (q : Read Token) → token_of r ≡ and_read q shaped → Payload r
+pub payload-after : (r : TokenRead) (q : Read Token) → token_of (Some r) ≡ and_read q shaped → Payload r
 payload-after (read.Open count) q e = tt
 payload-after read.Close q e = tt
-payload-after read.Wrong q e = tt
 payload-after (read.Value code payload count) wrong e = absurd (let z : ◌≡◌ {A = ℕ} 0 1 = cc in omega arith)
 payload-after (read.Value code payload count) (got opening n) e = absurd (let z : ◌≡◌ {A = ℕ} 0 1 = cc in omega arith)
 payload-after (read.Value code payload count) (got closing n) e = absurd (let z : ◌≡◌ {A = ℕ} 0 1 = cc in omega arith)

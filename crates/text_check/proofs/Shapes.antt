@@ -8,18 +8,20 @@ use native.Mathlib.Nat.{add-zero}
 use lib.Dec.{eqb}
 use lib.ListN.{length, get_or, drop, length-append, drop_of_length-le}
 use borrow.Author.Tests.{ne_eqb}
+use Rattle.std.specs.Prelude as std
+use Rattle.std.specs.Prelude.{Some, None}
 use Rattle.digits.specs.Read.{Read, got, wrong, and_read}
 use Rattle.list.specs.Strings.{terminator}
 use Rattle.list.specs.Tree.{Value, vocab, str, blob}
 use Rattle.list.specs.Bytes.{value_bytes}
 use Rattle.text.specs.Read.{number_at, vocab_at, chars_at, bytes_at, within, value_at}
 use Rattle.text.specs.Tokens.{Token, opening, closing, item, item_token, element_at, spaced, token_at}
-use Rattle.text_value.specs.declared.WordRead.{WordRead}
+use Rattle.text_value.specs.declared.Word.{Word}
 use Rattle.text_value.specs.declared.NumberRead.{NumberRead}
 use Rattle.text_value.specs.declared.NumberRead.TheVariants as number
-use Rattle.text_value.specs.Answers.{word_of, number_of, gap_size, moved_by, Within}
+use Rattle.text_value.specs.Answers.{word_of, number_of, gap_size, Within}
 use Rattle.text_value.proofs.Decimals.{drop-next}
-use Rattle.text_value.proofs.BlobBytes.{moved_none, moved-one}
+use Rattle.text_value.proofs.BlobBytes.{moved_by, moved_none, moved-one}
 use Rattle.text_check.specs.declared.span.Span.{Span}
 use Rattle.text_check.specs.declared.token.TokenRead.{TokenRead}
 use Rattle.text_check.specs.declared.token.TokenRead.TheVariants as read
@@ -60,10 +62,10 @@ vocab-shape : (q : Read ℕ) → and_read q (λ bits count. got (valued 9 4) (su
 vocab-shape (got bits n) = ap (λ (k : ℕ). got (valued 9 k) (suc n)) (at-most-is 4 (omega arith))
 vocab-shape wrong = refl
 
-number-shape : (r : NumberRead) → number_token r ≡ and_read (and_read (number_of r) item_token) shaped
-number-shape (number.Int bits n) = ap (λ (k : ℕ). got (valued 1 k) n) (at-most-is 4 (omega arith))
-number-shape (number.Float low high n) = ap (λ (k : ℕ). got (valued 10 k) n) (at-most-is 8 (omega arith))
-number-shape number.Wrong = refl
+number-shape : (r : std.Option NumberRead) → number_token r ≡ and_read (and_read (number_of r) item_token) shaped
+number-shape (Some (number.Int bits n)) = ap (λ (k : ℕ). got (valued 1 k) n) (at-most-is 4 (omega arith))
+number-shape (Some (number.Float low high n)) = ap (λ (k : ℕ). got (valued 10 k) n) (at-most-is 8 (omega arith))
+number-shape None = refl
 
 -- WHERE THEY STAND
 span-within : (code tail at end : ℕ) (r : Read ℕ) → Within (at + 1) end r
@@ -75,10 +77,10 @@ vocab-within : (at end : ℕ) (r : Read ℕ) → Within (at + 1) end r → Withi
 vocab-within at end (got bits n) w = (omega arith, omega arith)
 vocab-within at end wrong w = tt
 
-number-within : (at end : ℕ) (r : NumberRead) → Within at end (number_of r) → Within at end (number_token r)
-number-within at end (number.Int bits n) w = w
-number-within at end (number.Float low high n) w = w
-number-within at end number.Wrong w = tt
+number-within : (at end : ℕ) (r : std.Option NumberRead) → Within at end (number_of r) → Within at end (number_token r)
+number-within at end (Some (number.Int bits n)) w = w
+number-within at end (Some (number.Float low high n)) w = w
+number-within at end None w = tt
 
 -- what is asked of a reading that one character more is counted for
 pub roomy : {A : Type 0} (at end : ℕ) (r : Read A) → end < 2 ^ 64 → Within (at + 1) end r → Within 1 (2 ^ 64 - 1) r
@@ -128,24 +130,24 @@ element-no-closing (c ∷ s) = go (eqb c 40) (value_at (c ∷ s))
     go false wrong = tt
 
 -- an element behind its gap
-gap-shape : (gap : ℕ) (r : TokenRead) (q : Read Token) → NoClosing q → token_of r ≡ and_read q shaped → behind_gap gap r ≡ and_read (moved_by gap q) shaped
-gap-shape gap (read.Open n) (got opening m) k e = let h : n ≡ m = cc in ap (λ (x : ℕ). got opened (x + gap)) h
-gap-shape gap (read.Open n) (got closing m) k e = absurd k
-gap-shape gap (read.Open n) (got (item v) m) k e = absurd (let z : ◌≡◌ {A = ℕ} 0 1 = cc in omega arith)
-gap-shape gap (read.Open n) wrong k e = absurd (let z : ◌≡◌ {A = ℕ} 0 1 = cc in omega arith)
-gap-shape gap read.Close (got opening m) k e = absurd (let z : ◌≡◌ {A = ℕ} 0 1 = cc in omega arith)
-gap-shape gap read.Close (got closing m) k e = absurd k
-gap-shape gap read.Close (got (item v) m) k e = absurd (let z : ◌≡◌ {A = ℕ} 0 1 = cc in omega arith)
-gap-shape gap read.Close wrong k e = refl
-gap-shape gap (read.Value code payload n) (got opening m) k e = absurd (let z : ◌≡◌ {A = ℕ} 0 1 = cc in omega arith)
-gap-shape gap (read.Value code payload n) (got closing m) k e = absurd k
-gap-shape gap (read.Value code payload n) (got (item v) m) k e =
+gap-shape : (gap : ℕ) (r : std.Option TokenRead) (q : Read Token) → NoClosing q → token_of r ≡ and_read q shaped → behind_gap gap r ≡ and_read (moved_by gap q) shaped
+gap-shape gap (Some (read.Open n)) (got opening m) k e = let h : n ≡ m = cc in ap (λ (x : ℕ). got opened (x + gap)) h
+gap-shape gap (Some (read.Open n)) (got closing m) k e = absurd k
+gap-shape gap (Some (read.Open n)) (got (item v) m) k e = absurd (let z : ◌≡◌ {A = ℕ} 0 1 = cc in omega arith)
+gap-shape gap (Some (read.Open n)) wrong k e = absurd (let z : ◌≡◌ {A = ℕ} 0 1 = cc in omega arith)
+gap-shape gap (Some read.Close) (got opening m) k e = absurd (let z : ◌≡◌ {A = ℕ} 0 1 = cc in omega arith)
+gap-shape gap (Some read.Close) (got closing m) k e = absurd k
+gap-shape gap (Some read.Close) (got (item v) m) k e = absurd (let z : ◌≡◌ {A = ℕ} 0 1 = cc in omega arith)
+gap-shape gap (Some read.Close) wrong k e = refl
+gap-shape gap (Some (read.Value code payload n)) (got opening m) k e = absurd (let z : ◌≡◌ {A = ℕ} 0 1 = cc in omega arith)
+gap-shape gap (Some (read.Value code payload n)) (got closing m) k e = absurd k
+gap-shape gap (Some (read.Value code payload n)) (got (item v) m) k e =
     let h : n ≡ m = cc in
     let p : valued code payload ≡ shape_of (item v) = cc in
     rw (p, h)
-gap-shape gap (read.Value code payload n) wrong k e = absurd (let z : ◌≡◌ {A = ℕ} 0 1 = cc in omega arith)
-gap-shape gap read.Wrong (got token m) k e = absurd (let z : ◌≡◌ {A = ℕ} 0 1 = cc in omega arith)
-gap-shape gap read.Wrong wrong k e = refl
+gap-shape gap (Some (read.Value code payload n)) wrong k e = absurd (let z : ◌≡◌ {A = ℕ} 0 1 = cc in omega arith)
+gap-shape gap None (got token m) k e = absurd (let z : ◌≡◌ {A = ℕ} 0 1 = cc in omega arith)
+gap-shape gap None wrong k e = refl
 
 module _ (s : List ℕ) (at : ℕ) (long : at < length s) where
   -- the characters from the first on, which is known
@@ -167,7 +169,7 @@ module _ (s : List ℕ) (at : ℕ) (long : at < length s) where
       ap (λ (r : Read Value). and_read (and_read r item_token) shaped) (sym h)
       ∙ ap (λ (r : Read Token). and_read r shaped) (sym (element-value c (drop (at + 1) s) q)) ∙ front-is c e
 
-  pub element-string : (r : Span) (x : Read Shape) → get_or s at 0 ≡ 34 → x ≡ span_token 4 1 r → span_of r ≡ and_read (chars_at 0 (drop (at + 1) s)) counted
+  pub element-string : (r : std.Option Span) (x : Read Shape) → get_or s at 0 ≡ 34 → x ≡ span_token 4 1 r → span_of r ≡ and_read (chars_at 0 (drop (at + 1) s)) counted
       → Within (at + 1) (length s) (span_of r) → (x ≡ and_read (element_at (drop at s)) shaped) × Within at (length s) x
   element-string r x e h g w = (
     h ∙ ap (λ (q : Read ℕ). and_read q (λ stored count. got (valued 4 (at_most (4 + (stored + 1)))) (suc count))) g ∙ string-shape (chars_at 0 (drop (at + 1) s))
@@ -175,7 +177,7 @@ module _ (s : List ℕ) (at : ℕ) (long : at < length s) where
     rw h (span-within 4 1 at (length s) (span_of r) w),
   )
 
-  pub element-blob : (r : Span) (x : Read Shape) → get_or s at 0 ≡ 123 → x ≡ span_token 12 0 r → span_of r ≡ and_read (bytes_at true 0 (drop (at + 1) s)) counted
+  pub element-blob : (r : std.Option Span) (x : Read Shape) → get_or s at 0 ≡ 123 → x ≡ span_token 12 0 r → span_of r ≡ and_read (bytes_at true 0 (drop (at + 1) s)) counted
       → Within (at + 1) (length s) (span_of r) → (x ≡ and_read (element_at (drop at s)) shaped) × Within at (length s) x
   element-blob r x e h g w = (
     h ∙ ap (λ (q : Read ℕ). and_read q (λ stored count. got (valued 12 (at_most (4 + (stored + 0)))) (suc count))) g ∙ blob-shape (bytes_at true 0 (drop (at + 1) s))
@@ -183,7 +185,7 @@ module _ (s : List ℕ) (at : ℕ) (long : at < length s) where
     rw h (span-within 12 0 at (length s) (span_of r) w),
   )
 
-  pub element-vocab : (r : WordRead) (x : Read Shape) → get_or s at 0 ≡ 91 → x ≡ vocab_token r → word_of r ≡ vocab_at (drop (at + 1) s)
+  pub element-vocab : (r : std.Option Word) (x : Read Shape) → get_or s at 0 ≡ 91 → x ≡ vocab_token r → word_of r ≡ vocab_at (drop (at + 1) s)
       → Within (at + 1) (length s) (word_of r) → (x ≡ and_read (element_at (drop at s)) shaped) × Within at (length s) x
   element-vocab r x e h g w = (
     h ∙ vocab-shape (word_of r) ∙ ap (λ (q : Read ℕ). and_read (and_read (and_read q (within vocab)) item_token) shaped) g
@@ -191,7 +193,7 @@ module _ (s : List ℕ) (at : ℕ) (long : at < length s) where
     rw h (vocab-within at (length s) (word_of r) w),
   )
 
-  pub element-number : (r : NumberRead) (x : Read Shape) → (get_or s at 0 ≡ 40 → ⊥) → (get_or s at 0 ≡ 34 → ⊥) → (get_or s at 0 ≡ 123 → ⊥) → (get_or s at 0 ≡ 91 → ⊥)
+  pub element-number : (r : std.Option NumberRead) (x : Read Shape) → (get_or s at 0 ≡ 40 → ⊥) → (get_or s at 0 ≡ 34 → ⊥) → (get_or s at 0 ≡ 123 → ⊥) → (get_or s at 0 ≡ 91 → ⊥)
       → x ≡ number_token r → number_of r ≡ number_at (drop at s) → Within at (length s) (number_of r)
       → (x ≡ and_read (element_at (drop at s)) shaped) × Within at (length s) x
   element-number r x a b d f h g w = (
@@ -223,44 +225,40 @@ module _ (s : List ℕ) (at : ℕ) (long : at < length s) where
   token-is first q = ap (token_at first) (drop-next s at long) ∙ rw (ne_eqb (get_or s at 0) 41 q)
 
   module _ (gap : ℕ) where
-    gapped : (first space : Bool) → gap ≡ cond first 0 (cond space 1 2) → (gap ≡ 2 → ⊥) → moved_by gap (element_at (drop (at + gap) s)) ≡ token-by first space
-    gapped true space e h = rw (e, add-zero at) (moved_none (element_at (drop at s)) ∙ ap element_at (drop-next s at long))
-    gapped false true e h = rw e (moved-one (element_at (drop (at + 1) s)))
-    gapped false false e h = absurd (h e)
+    gapped : (first space : Bool) → cond first (Some 0) (cond space (Some 1) None) ≡ Some gap → moved_by gap (element_at (drop (at + gap) s)) ≡ token-by first space
+    gapped true space e = let z : gap ≡ 0 = cc in rw (z, add-zero at) (moved_none (element_at (drop at s)) ∙ ap element_at (drop-next s at long))
+    gapped false true e = let z : gap ≡ 1 = cc in rw z (moved-one (element_at (drop (at + 1) s)))
+    gapped false false e = absurd (cc)
 
-    stays : (r : TokenRead) → Within (at + gap) (length s) (token_of r) → Within at (length s) (behind_gap gap r)
-    stays (read.Open n) w = (omega arith, omega arith)
-    stays read.Close w = tt
-    stays (read.Value code payload n) w = (omega arith, omega arith)
-    stays read.Wrong w = tt
+    stays : (r : std.Option TokenRead) → Within (at + gap) (length s) (token_of r) → Within at (length s) (behind_gap gap r)
+    stays (Some (read.Open n)) w = (omega arith, omega arith)
+    stays (Some read.Close) w = tt
+    stays (Some (read.Value code payload n)) w = (omega arith, omega arith)
+    stays None w = tt
 
     -- r is what stands behind the gap
-    pub token-gap : (first : Bool) (r : TokenRead) (x : Read Shape) → (get_or s at 0 ≡ 41 → ⊥) → gap ≡ gap_size first (get_or s at 0) → (gap ≡ 2 → ⊥) → x ≡ behind_gap gap r
+    pub token-gap : (first : Bool) (r : std.Option TokenRead) (x : Read Shape) → (get_or s at 0 ≡ 41 → ⊥) → gap_size first (get_or s at 0) ≡ Some gap → x ≡ behind_gap gap r
         → (token_of r ≡ and_read (element_at (drop (at + gap) s)) shaped) × Within (at + gap) (length s) (token_of r)
         → (x ≡ and_read (token_at first (drop at s)) shaped) × Within at (length s) x
-    token-gap first r x q e h k g = (
+    token-gap first r x q e k g = (
       k ∙ gap-shape gap r (element_at (drop (at + gap) s)) (element-no-closing (drop (at + gap) s)) g.0
-          ∙ ap (λ (t : Read Token). and_read t shaped) (gapped first (eqb (get_or s at 0) 32) e h ∙ sym (token-is first q)),
+          ∙ ap (λ (t : Read Token). and_read t shaped) (gapped first (eqb (get_or s at 0) 32) e ∙ sym (token-is first q)),
       rw k (stays r g.1),
     )
 
-    missing : (first space : Bool) → gap ≡ cond first 0 (cond space 1 2) → gap ≡ 2 → wrong ≡ token-by first space
-    missing true space e h = absurd (omega (arith, e, h))
-    missing false true e h = absurd (omega (arith, e, h))
-    missing false false e h = refl
+  missing : (first space : Bool) → (first || space) ≡ false → wrong ≡ token-by first space
+  missing true space e = absurd (cc)
+  missing false true e = absurd (cc)
+  missing false false e = refl
 
-    -- neither a closing bracket nor the space that must stand
-    pub token-bare : (first : Bool) → (get_or s at 0 ≡ 41 → ⊥) → gap ≡ gap_size first (get_or s at 0) → gap ≡ 2 → wrong ≡ and_read (token_at first (drop at s)) shaped
-    token-bare first q e h = ap (λ (t : Read Token). and_read t shaped) (missing first (eqb (get_or s at 0) 32) e h ∙ sym (token-is first q))
+  -- neither a closing bracket nor the space that must stand
+  pub token-bare : (first : Bool) → (get_or s at 0 ≡ 41 → ⊥) → (first || eqb (get_or s at 0) 32) ≡ false → wrong ≡ and_read (token_at first (drop at s)) shaped
+  token-bare first q e = ap (λ (t : Read Token). and_read t shaped) (missing first (eqb (get_or s at 0) 32) e ∙ sym (token-is first q))
 
--- where an element may begin, the gap is that of the definition; else none is
-pub gap-known : (first : Bool) (c : ℕ) → (first || eqb c 32) ≡ true → (cond first 0 1 ≡ gap_size first c) × (◌≡◌ {A = ℕ} (cond first 0 1) 2 → ⊥)
-gap-known true c h = (refl, λ z. absurd (omega arith))
-gap-known false c h = (rw h, λ z. absurd (omega arith))
-
-pub gap-missing : (first : Bool) (c : ℕ) → (first || eqb c 32) ≡ false → 2 ≡ gap_size first c
-gap-missing true c h = absurd (let z : ◌≡◌ {A = ℕ} 0 1 = cc in omega arith)
-gap-missing false c h = rw h
+-- where an element may begin, the gap is that of the definition
+pub gap-known : (first : Bool) (c : ℕ) → (first || eqb c 32) ≡ true → gap_size first c ≡ Some (cond first 0 1)
+gap-known true c h = refl
+gap-known false c h = rw h
 
 -- nothing stands behind the last character
 pub token-past : (first : Bool) (s : List ℕ) (at : ℕ) → length s ≤ at → wrong ≡ and_read (token_at first (drop at s)) shaped

@@ -9,6 +9,8 @@ use lib.Dec.{eqb}
 use lib.ListN.{length, get_or, drop, drop_of_length-le}
 use lib.Seq.{drop-cons, drop-drop}
 use borrow.Author.Tests.{eq-eqb, ne_eqb}
+use Rattle.std.specs.Prelude as std
+use Rattle.std.specs.Prelude.{Some, None}
 use Rattle.digits.specs.Read.{Read, got, wrong, and_read}
 use Rattle.text.specs.Text.{is_printed, is_marked}
 use Rattle.text.specs.Read.{escape_at, char_at, chars_at, byte_at, bytes_at}
@@ -114,18 +116,18 @@ module _
       ∙ further-more stored (i - at) b n (i + n - at) (next (drop n (drop i s))) (omega arith)
       ∙ ap (λ (l : List ℕ). further (stored + 1) (i + n - at) (next l)) (drop-drop n i s)
 
--- what a size of 0 says, and another
-pub read_none : {A : Type 0} (at end : ℕ) (r : Read A) → Within at end r → size_read r ≡ 0 → r ≡ wrong
-read_none at end (got a n) w h = absurd (omega arith)
-read_none at end wrong w h = refl
+-- what no size says, and one
+pub read_none : {A : Type 0} (r : Read A) → None ≡ size_read r → r ≡ wrong
+read_none (got a n) h = absurd (cc)
+read_none wrong h = refl
 
-pub read_some : {A : Type 0} (at end n : ℕ) (r : Read A) → Within at end r → n ≡ size_read r → (n ≡ 0 → ⊥) → (a : A) × (r ≡ got a n) × (1 ≤ n) × (at + n ≤ end)
-read_some at end n (got a count) w h k = (a, got_same a a count n refl (sym h), omega arith, omega arith)
-read_some at end n wrong w h k = absurd (k h)
+pub read_some : {A : Type 0} (at end n : ℕ) (r : Read A) → Within at end r → Some n ≡ size_read r → (a : A) × (r ≡ got a n) × (1 ≤ n) × (at + n ≤ end)
+read_some at end n (got a count) w h = let k : n ≡ count = cc in (a, got_same a a count n refl (sym k), omega arith, omega arith)
+read_some at end n wrong w h = absurd (cc)
 
 -- THE SIZES OF ONE BYTE
-pub sized : (at end n : ℕ) (r q : Read ℕ) → r ≡ q → Within at end r → n ≡ size_read r → (n ≡ size_read q) × Within at end q
-sized at end n r q e w h = (h ∙ ap size_read e, rw e at w)
+pub sized : (at end : ℕ) (r q : Read ℕ) (n : std.Option ℕ) → r ≡ q → Within at end r → n ≡ size_read r → (n ≡ size_read q) × Within at end q
+sized at end r q n e w h = (h ∙ ap size_read e, rw e at w)
 
 pub within-less : (at end : ℕ) (r : Read ℕ) → Within (at + 1) (end + 1) r → Within at end r
 within-less at end (got a n) w = (w.0, omega arith)
@@ -148,13 +150,6 @@ module _ (s : List ℕ) (at : ℕ) (long : at < length s) where
   char-none q e = rw (here, ne_eqb (get_or s at 0) 92 q, e)
 
 -- THE LOOPS
--- nothing stands behind the last character
-pub string-past : (s : List ℕ) (at : ℕ) → length s ≤ at → wrong ≡ and_read (chars_at 0 (drop at s)) counted
-string-past s at h = rw (drop_of_length-le s h, chars-empty)
-
-pub blob-past : (s : List ℕ) (at : ℕ) → length s ≤ at → wrong ≡ and_read (bytes_at true 0 (drop at s)) counted
-blob-past s at h = rw (drop_of_length-le s h, bytes-empty true)
-
 module _ (s : List ℕ) (at i stored : ℕ) (from : at ≤ i) (inv : and_read (chars_at 0 (drop at s)) counted ≡ further stored (i - at) (chars_at 0 (drop i s))) where
   pub string-open : length s ≤ i → wrong ≡ and_read (chars_at 0 (drop at s)) counted
   string-open h = sym (inv ∙ rw (drop_of_length-le s h, chars-empty))
@@ -162,16 +157,14 @@ module _ (s : List ℕ) (at i stored : ℕ) (from : at ≤ i) (inv : and_read (c
   pub string-end : i < length s → get_or s i 0 ≡ 34 → got stored (i - at + 1) ≡ and_read (chars_at 0 (drop at s)) counted
   string-end h e = sym (turn_end 34 s at i stored (chars_at 0) (chars_at 0) char_at chars-one chars-none chars-quote _ inv from h e)
 
-  pub string-wrong : (n : ℕ) → i < length s → (get_or s i 0 ≡ 34 → ⊥) → n ≡ size_read (char_at (drop i s)) → Within i (length s) (char_at (drop i s)) → n ≡ 0
-      → wrong ≡ and_read (chars_at 0 (drop at s)) counted
-  string-wrong n h q e w z =
-      sym (turn-none 34 s at i stored (chars_at 0) (chars_at 0) char_at chars-one chars-none chars-quote _ inv from h q
-      (read_none i (length s) (char_at (drop i s)) w (sym e ∙ z)))
+  pub string-wrong : i < length s → (get_or s i 0 ≡ 34 → ⊥) → None ≡ size_read (char_at (drop i s)) → wrong ≡ and_read (chars_at 0 (drop at s)) counted
+  string-wrong h q e =
+      sym (turn-none 34 s at i stored (chars_at 0) (chars_at 0) char_at chars-one chars-none chars-quote _ inv from h q (read_none (char_at (drop i s)) e))
 
-  pub string-turn : (n : ℕ) → i < length s → (get_or s i 0 ≡ 34 → ⊥) → n ≡ size_read (char_at (drop i s)) → Within i (length s) (char_at (drop i s)) → (n ≡ 0 → ⊥)
+  pub string-turn : (n : ℕ) → i < length s → (get_or s i 0 ≡ 34 → ⊥) → Some n ≡ size_read (char_at (drop i s)) → Within i (length s) (char_at (drop i s))
       → (1 ≤ n) × (i + n ≤ length s) × (and_read (chars_at 0 (drop at s)) counted ≡ further (stored + 1) (i + n - at) (chars_at 0 (drop (i + n) s)))
-  string-turn n h q e w z =
-      let r = read_some i (length s) n (char_at (drop i s)) w e z in
+  string-turn n h q e w =
+      let r = read_some i (length s) n (char_at (drop i s)) w e in
       (r.2, r.3, turn_more 34 s at i stored (chars_at 0) (chars_at 0) char_at chars-one chars-none chars-quote _ inv from h q r.0 n r.1 r.2)
 
 -- a blob's byte is the first while none is stored
@@ -188,18 +181,18 @@ module _
   blob-end h e =
       sym (turn_end 125 s at i stored (bytes_at first 0) (bytes_at false 0) (byte_at first) (bytes_one first) (bytes-none first) (bytes-brace first) _ inv from h e)
 
-  pub blob-wrong : (n : ℕ) → i < length s → (get_or s i 0 ≡ 125 → ⊥) → n ≡ size_read (byte_at (eqb stored 0) (drop i s))
-      → Within i (length s) (byte_at (eqb stored 0) (drop i s)) → n ≡ 0 → wrong ≡ and_read (bytes_at true 0 (drop at s)) counted
-  blob-wrong n h q e w z =
+  pub blob-wrong : i < length s → (get_or s i 0 ≡ 125 → ⊥) → None ≡ size_read (byte_at (eqb stored 0) (drop i s))
+      → wrong ≡ and_read (bytes_at true 0 (drop at s)) counted
+  blob-wrong h q e =
       sym (turn-none 125 s at i stored (bytes_at first 0) (bytes_at false 0) (byte_at first) (bytes_one first) (bytes-none first) (bytes-brace first) _ inv from h q
-      (read_none i (length s) (byte_at first (drop i s)) w (sym e ∙ z)))
+      (read_none (byte_at first (drop i s)) e))
 
-  pub blob-turn : (n : ℕ) → i < length s → (get_or s i 0 ≡ 125 → ⊥) → n ≡ size_read (byte_at (eqb stored 0) (drop i s))
-      → Within i (length s) (byte_at (eqb stored 0) (drop i s)) → (n ≡ 0 → ⊥)
+  pub blob-turn : (n : ℕ) → i < length s → (get_or s i 0 ≡ 125 → ⊥) → Some n ≡ size_read (byte_at (eqb stored 0) (drop i s))
+      → Within i (length s) (byte_at (eqb stored 0) (drop i s))
       → (1 ≤ n) × (i + n ≤ length s)
       × (and_read (bytes_at true 0 (drop at s)) counted ≡ further (stored + 1) (i + n - at) (bytes_at (eqb (stored + 1) 0) 0 (drop (i + n) s)))
-  blob-turn n h q e w z =
-      let r = read_some i (length s) n (byte_at first (drop i s)) w e z in
+  blob-turn n h q e w =
+      let r = read_some i (length s) n (byte_at first (drop i s)) w e in
       let f : eqb (stored + 1) 0 ≡ false = ne_eqb (stored + 1) 0 (λ k. omega arith) in (
         r.2,
         r.3,

@@ -10,6 +10,7 @@ use lib.Dec.{eqb}
 use lib.ListN.{length, get_or, drop, drop_of_length-le}
 use lib.Seq.{drop-cons, drop-drop}
 use borrow.Author.Tests.{eq-eqb, ne_eqb}
+use Rattle.std.specs.Prelude.{Some}
 use Rattle.digits.specs.Read.{Read, got, wrong, and_read}
 use Rattle.text.specs.Tokens.{Token, opens, token_at, token_then, tokens_at}
 use Rattle.text.specs.Reading.{tree_of, reading}
@@ -85,99 +86,92 @@ goes_end s pos first c g h =
     ∙ sym (g.answer ∙ ap (λ (l : List ℕ). answer_from g.told (tokens_at first 0 l)) (drop_of_length-le s h)
     ∙ ap (answer_from g.told) (tokens_none first) ∙ answer-end g.told)
 
--- what was read, by its count
-no-token : (at end : ℕ) (r : TokenRead) (q : Read Token) → token_of r ≡ and_read q shaped → Within at end (token_of r) → count_of r ≡ 0 → q ≡ wrong
-no-token at end (read.Open n) q e w z = absurd (omega arith)
-no-token at end read.Close q e w z = absurd (omega arith)
-no-token at end (read.Value code payload n) q e w z = absurd (omega arith)
-no-token at end read.Wrong (got token n) e w z = absurd (let y : ◌≡◌ {A = ℕ} 0 1 = cc in omega arith)
-no-token at end read.Wrong wrong e w z = refl
-
 -- a token that was read has its count
 record ReadAs (at end : ℕ) (r : TokenRead) (q : Read Token) : Type 0 where
   token : Token
   is : q ≡ got token (count_of r)
-  shape : token_of r ≡ got (shape_of token) (count_of r)
+  shape : token_of (Some r) ≡ got (shape_of token) (count_of r)
   some-chars : 1 ≤ count_of r
   inside : at + count_of r ≤ end
 
-count-of : (r : TokenRead) (token : Token) (n : ℕ) → token_of r ≡ got (shape_of token) n → n ≡ count_of r
+count-of : (r : TokenRead) (token : Token) (n : ℕ) → token_of (Some r) ≡ got (shape_of token) n → n ≡ count_of r
 count-of (read.Open m) token n e = cc
 count-of read.Close token n e = cc
 count-of (read.Value code payload m) token n e = cc
-count-of read.Wrong token n e = absurd (let y : ◌≡◌ {A = ℕ} 0 1 = cc in omega arith)
 
-count-within : (at end : ℕ) (r : TokenRead) → Within at end (token_of r) → (count_of r ≡ 0 → ⊥) → (1 ≤ count_of r) × (at + count_of r ≤ end)
-count-within at end (read.Open n) w z = w
-count-within at end read.Close w z = w
-count-within at end (read.Value code payload n) w z = w
-count-within at end read.Wrong w z = absurd (z refl)
+count-within : (at end : ℕ) (r : TokenRead) → Within at end (token_of (Some r)) → (1 ≤ count_of r) × (at + count_of r ≤ end)
+count-within at end (read.Open n) w = w
+count-within at end read.Close w = w
+count-within at end (read.Value code payload n) w = w
 
-read_as : (at end : ℕ) (r : TokenRead) (q : Read Token) → token_of r ≡ and_read q shaped → Within at end (token_of r) → (count_of r ≡ 0 → ⊥) → ReadAs at end r q
-read_as at end r (got token n) e w z =
+read_as : (at end : ℕ) (r : TokenRead) (q : Read Token) → token_of (Some r) ≡ and_read q shaped → Within at end (token_of (Some r)) → ReadAs at end r q
+read_as at end r (got token n) e w =
     let k = count-of r token n e in
-    let i = count-within at end r w z in
+    let i = count-within at end r w in
     record { token = token; is = ap (got token) k; shape = e ∙ ap (got (shape_of token)) k; some-chars = i.0; inside = i.1 }
-read_as at end read.Wrong wrong e w z = absurd (z refl)
-read_as at end (read.Open n) wrong e w z = absurd (let y : ◌≡◌ {A = ℕ} 0 1 = cc in omega arith)
-read_as at end read.Close wrong e w z = absurd (let y : ◌≡◌ {A = ℕ} 0 1 = cc in omega arith)
-read_as at end (read.Value code payload n) wrong e w z = absurd (let y : ◌≡◌ {A = ℕ} 0 1 = cc in omega arith)
+read_as at end (read.Open n) wrong e w = absurd (cc)
+read_as at end read.Close wrong e w = absurd (cc)
+read_as at end (read.Value code payload n) wrong e w = absurd (cc)
+
+no-token : (q : Read Token) → wrong ≡ and_read q shaped → q ≡ wrong
+no-token (got token n) e = absurd (cc)
+no-token wrong e = refl
+
+-- NO TOKEN
+pub goes-wrong : (s : List ℕ) (pos : ℕ) (first : Bool) (c : code.Tally) → Goes s pos first c → pos < length s
+    → wrong ≡ and_read (token_at first (drop pos s)) shaped → 32 ≡ error_of (to_read s)
+goes-wrong s pos first c g long h =
+    let front = drop-cons s pos 0 long in
+    let e : token_at first (drop pos s) ≡ wrong = no-token (token_at first (drop pos s)) h in
+    sym (g.answer ∙ ap (answer_from g.told)
+    (ap (tokens_at first 0) front ∙ tokens-wrong first (get_or s pos 0) (drop (suc pos) s) (ap (token_at first) (sym front) ∙ e)))
 
 -- A TURN
 -- r is what the code reads at `pos`
 module _
     (s : List ℕ) (pos : ℕ) (first : Bool) (c : code.Tally) (g : Goes s pos first c) (long : pos < length s) (r : TokenRead)
-    (is-r : (token_of r ≡ and_read (token_at first (drop pos s)) shaped) × Within pos (length s) (token_of r)) where
-  -- no token
-  pub goes-wrong : count_of r ≡ 0 → 32 ≡ error_of (to_read s)
-  goes-wrong z =
-      let front = drop-cons s pos 0 long in
-      let e : token_at first (drop pos s) ≡ wrong = no-token pos (length s) r (token_at first (drop pos s)) is-r.0 is-r.1 z in
-      sym (g.answer ∙ ap (answer_from g.told)
-      (ap (tokens_at first 0) front ∙ tokens-wrong first (get_or s pos 0) (drop (suc pos) s) (ap (token_at first) (sym front) ∙ e)))
-
+    (is-r : (token_of (Some r) ≡ and_read (token_at first (drop pos s)) shaped) × Within pos (length s) (token_of (Some r))) where
   pub goes-payload : Payload r
   goes-payload = payload-after r (token_at first (drop pos s)) is-r.0
 
-  module _ (z : count_of r ≡ 0 → ⊥) where
-    found : ReadAs pos (length s) r (token_at first (drop pos s))
-    found = read_as pos (length s) r (token_at first (drop pos s)) is-r.0 is-r.1 z
+  found : ReadAs pos (length s) r (token_at first (drop pos s))
+  found = read_as pos (length s) r (token_at first (drop pos s)) is-r.0 is-r.1
 
-    pub goes-counts : (1 ≤ count_of r) × (pos + count_of r ≤ length s)
-    goes-counts = (found.some-chars, found.inside)
+  pub goes-counts : (1 ≤ count_of r) × (pos + count_of r ≤ length s)
+  goes-counts = (found.some-chars, found.inside)
 
-    next : Tally
-    next = with_token g.told found.token
+  next : Tally
+  next = with_token g.told found.token
 
-    next-answer : error_of (to_read s) ≡ cond (eqb next.depth 0) 32 (answer_from next (tokens_at (opens found.token) 0 (drop (pos + count_of r) s)))
-    unfolding next
-    next-answer =
-        g.answer
-        ∙ ap (answer_from g.told) (tokens-got first (drop pos s) found.token (count_of r) found.is found.some-chars)
-        ∙ answer-token g.told found.token (tokens_at (opens found.token) 0 (drop (count_of r) (drop pos s)))
-        ∙ ap (λ (l : List ℕ). cond (eqb next.depth 0) 32 (answer_from next (tokens_at (opens found.token) 0 l))) (drop-drop (count_of r) pos s)
+  next-answer : error_of (to_read s) ≡ cond (eqb next.depth 0) 32 (answer_from next (tokens_at (opens found.token) 0 (drop (pos + count_of r) s)))
+  unfolding next
+  next-answer =
+      g.answer
+      ∙ ap (answer_from g.told) (tokens-got first (drop pos s) found.token (count_of r) found.is found.some-chars)
+      ∙ answer-token g.told found.token (tokens_at (opens found.token) 0 (drop (count_of r) (drop pos s)))
+      ∙ ap (λ (l : List ℕ). cond (eqb next.depth 0) 32 (answer_from next (tokens_at (opens found.token) 0 l))) (drop-drop (count_of r) pos s)
 
-    next-stands : StandsFor (counter_after c r) next
-    unfolding next
-    next-stands = stands_after c g.told r found.token (count_of r) g.stands found.shape
+  next-stands : StandsFor (counter_after c r) next
+  unfolding next
+  next-stands = stands_after c g.told r found.token (count_of r) g.stands found.shape
 
-    -- a bracket that closes the outermost list
-    pub goes-closed : (counter_after c r).depth ≡ 0 → 32 ≡ error_of (to_read s)
-    goes-closed d = sym (next-answer ∙ rw (eq-eqb next.depth 0 (sym next-stands.depth ∙ d)))
+  -- a bracket that closes the outermost list
+  pub goes-closed : (counter_after c r).depth ≡ 0 → 32 ≡ error_of (to_read s)
+  goes-closed d = sym (next-answer ∙ rw (eq-eqb next.depth 0 (sym next-stands.depth ∙ d)))
 
-    -- on behind it
-    pub goes_on : ((counter_after c r).depth ≡ 0 → ⊥) → Goes s (pos + count_of r) (opens_of r) (counter_after c r)
-    goes_on d =
-        record {
-          told = next;
-          stands = next-stands;
-          kept = kept-after c r found.token (count_of r) g.kept found.shape;
-          some-open = omega arith;
-          few-open = omega (arith, depth-after c r, g.few-open, found.some-chars);
-          inside = found.inside;
-          answer =
-              next-answer
-              ∙ ap (λ (b : Bool). cond b 32 (answer_from next (tokens_at (opens found.token) 0 (drop (pos + count_of r) s))))
-              (ne_eqb next.depth 0 (λ e. d (next-stands.depth ∙ e)))
-              ∙ ap (λ (b : Bool). answer_from next (tokens_at b 0 (drop (pos + count_of r) s))) (sym (opens-after r found.token (count_of r) found.shape));
-        }
+  -- on behind it
+  pub goes_on : ((counter_after c r).depth ≡ 0 → ⊥) → Goes s (pos + count_of r) (opens_of r) (counter_after c r)
+  goes_on d =
+      record {
+        told = next;
+        stands = next-stands;
+        kept = kept-after c r found.token (count_of r) g.kept found.shape;
+        some-open = omega arith;
+        few-open = omega (arith, depth-after c r, g.few-open, found.some-chars);
+        inside = found.inside;
+        answer =
+            next-answer
+            ∙ ap (λ (b : Bool). cond b 32 (answer_from next (tokens_at (opens found.token) 0 (drop (pos + count_of r) s))))
+            (ne_eqb next.depth 0 (λ e. d (next-stands.depth ∙ e)))
+            ∙ ap (λ (b : Bool). answer_from next (tokens_at b 0 (drop (pos + count_of r) s))) (sym (opens-after r found.token (count_of r) found.shape));
+      }

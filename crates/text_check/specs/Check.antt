@@ -1,7 +1,9 @@
 -- What judging a text answers: the list that it is the text of, or the number of the refusal.
-use Rattle.std.specs.Prelude.{ℕ, List}
+use Rattle.std.specs.Prelude.{ℕ, List, Result, Ok, Err}
 use Rattle.std.proofs.Math.Option.{Option, some}
 use Rattle.std.proofs.Math.Option as option
+use Rattle.errors.specs.declared.Error.{Error}
+use Rattle.errors.specs.Number.{number_of}
 use Rattle.list.specs.Limits.{list_limit}
 use Rattle.list.specs.Tree.{Elements}
 use Rattle.list_rows.specs.Judge.{Verdict, accepted, refused, fitting}
@@ -20,3 +22,8 @@ to_read s = judged (reading s)
 abbrev pub error_of : Verdict Elements → ℕ
 error_of (accepted es) = 0
 error_of (refused number) = number
+
+-- the same of what the code answers
+abbrev pub error_in : Result (Unit {0}) Error → ℕ
+error_in (Ok u) = 0
+error_in (Err e) = number_of e

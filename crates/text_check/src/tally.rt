@@ -1,13 +1,16 @@
 // Depth and size of a list, found token by token. Beyond a list's limit the size is not followed any more.
 ghost use Rattle.std.specs.Prelude.{◌≤◌, ◌<◌, suc, ◌^◌, ◌-◌, ◌≡◌, false};
 ghost use Rattle.list.specs.Limits.{list_limit};
+ghost use Rattle.text_check.specs.Check.{error_in};
 ghost use Rattle.text_check.specs.Answers.{counter, counter_value, counter_open, counter_close, counter_after, counter_error, Small, Payload};
 
 use crate::token::TokenRead;
+use errors::Error;
 use list::{DEPTH_LIMIT, LIST_CODE, LIST_LIMIT, NUMBER};
 
 // How many lists are open, whether too many ever were, the code that the elements of the innermost have in common, the bytes that
-// their codes take if it is of no one kind, and the bytes of all that was read without these.
+// their codes take if it is of no one kind, and the bytes of all that was read without these. `deep` has no value beside it, so it is no Option.
+// `Small` is no invariant of the type: that would need `pending ≤ size` too, and `with_value` would then also ask `4 ≤ payload`.
 #[derive(Drop)]
 pub struct Tally {
     pub depth: usize,
@@ -89,23 +92,22 @@ impl Tally {
                 payload,
                 count: _,
             } => self.with_value(code, payload),
-            TokenRead::Wrong => self,
         }
     }
 
-    // What is wrong with all that was read: 32 where a bracket is left open, 27, 28, or 0.
-    pub fn error(self) -> u8
-        ensures { result ≡ counter_error self }
+    // What all that was read is judged: 32 where a bracket is left open, then 27, then 28.
+    pub fn verdict(self) -> Result<(), Error>
+        ensures { error_in result ≡ counter_error self }
     {
         if self.depth != 1 {
-            return 32;
+            return Err(Error::NoText);
         }
         if self.deep {
-            return 27;
+            return Err(Error::TooDeep);
         }
         if LIST_LIMIT < self.size {
-            return 28;
+            return Err(Error::TooLong);
         }
-        0
+        Ok(())
     }
 }

@@ -1,14 +1,16 @@
-// One token: a bracket, or an element with the bytes that it takes in a list.
-ghost use Rattle.std.specs.Prelude.{◌+◌, ◌-◌, ◌≤◌, ◌^◌, ◌≡◌, cond, ◌||◌, eqb, drop, length};
+// One token: a bracket, or an element with the bytes that it takes in a list. `first` is the definitions' own argument: only an element that is
+// not its list's first has a space before it.
+ghost use Rattle.std.specs.Prelude.{◌+◌, ◌-◌, ◌≤◌, ◌<◌, ◌^◌, Some, ◌≡◌, cond, ◌||◌, eqb, drop, length};
 ghost use Rattle.digits.specs.Read.{got, wrong, and_read};
 ghost use Rattle.text.specs.Tokens.{element_at, token_at};
-ghost use Rattle.text_value.specs.Answers.{word_of, Within};
-ghost use Rattle.text_check.specs.Answers.{at_most, opened, span_of, shaped, token_of, count_of, opens_of, span_token, vocab_token, number_token, behind_gap};
+ghost use Rattle.text_value.specs.Answers.{Within};
+ghost use Rattle.text_check.specs.Answers.{at_most, opened, shaped, token_of, count_of, opens_of, span_token, vocab_token, number_token, behind_gap};
 
 use crate::span::{Span, blob_span, string_span};
 use list::{Kind, LIST_LIMIT, NUMBER, TERMINATOR};
-use text_value::{NumberRead, WordRead, number_at, vocab_at};
+use text_value::{NumberRead, Word, number_at, vocab_at};
 
+// Three cases with different contents, so neither an Option nor a flag.
 #[derive(Clone, Copy)]
 pub enum TokenRead {
     Open(usize),
@@ -18,11 +20,10 @@ pub enum TokenRead {
         payload: usize,
         count: usize,
     },
-    Wrong,
 }
 
 impl TokenRead {
-    // The characters, 0 for none.
+    // The characters.
     pub fn count(self) -> usize
         ensures { result ≡ count_of self }
     {
@@ -34,23 +35,13 @@ impl TokenRead {
                 payload: _,
                 count,
             } => count,
-            TokenRead::Wrong => 0,
         }
     }
 
     pub fn opens(self) -> bool
         ensures { result ≡ opens_of self }
     {
-        match self {
-            TokenRead::Open(_) => true,
-            TokenRead::Close => false,
-            TokenRead::Value {
-                code: _,
-                payload: _,
-                count: _,
-            } => false,
-            TokenRead::Wrong => false,
-        }
+        matches!(self, TokenRead::Open(_))
     }
 }
 
@@ -71,35 +62,29 @@ fn payload_of(stored: usize, tail: usize) -> usize
 
 // A string or a blob, with the character that opens it.
 fn span_token(read: Span, code: u32, tail: usize) -> TokenRead
-    requires { (tail ≤ 1) × Within 1 (2 ^ 64 - 1) (span_of read) }
-    ensures { token_of result ≡ span_token code tail read }
+    requires { (tail ≤ 1) × (read.count < 2 ^ 64 - 1) }
+    ensures { token_of (Some result) ≡ span_token code tail (Some read) }
 {
-    match read {
-        Span::Is { stored, count } => TokenRead::Value {
-            code,
-            payload: payload_of(stored, tail),
-            count: count + 1,
-        },
-        Span::Wrong => TokenRead::Wrong,
+    TokenRead::Value {
+        code,
+        payload: payload_of(read.stored, tail),
+        count: read.count + 1,
     }
 }
 
-fn vocab_token(read: WordRead) -> TokenRead
-    requires { Within 1 (2 ^ 64 - 1) (word_of read) }
-    ensures { token_of result ≡ vocab_token read }
+fn vocab_token(read: Word) -> TokenRead
+    requires { read.count < 2 ^ 64 - 1 }
+    ensures { token_of (Some result) ≡ vocab_token (Some read) }
 {
-    match read {
-        WordRead::Is { bits: _, count } => TokenRead::Value {
-            code: Kind::VOCAB,
-            payload: NUMBER,
-            count: count + 1,
-        },
-        WordRead::Wrong => TokenRead::Wrong,
+    TokenRead::Value {
+        code: Kind::VOCAB,
+        payload: NUMBER,
+        count: read.count + 1,
     }
 }
 
 fn number_token(read: NumberRead) -> TokenRead
-    ensures { token_of result ≡ number_token read }
+    ensures { token_of (Some result) ≡ number_token (Some read) }
 {
     match read {
         NumberRead::Int { bits: _, count } => TokenRead::Value {
@@ -116,24 +101,23 @@ fn number_token(read: NumberRead) -> TokenRead
             payload: 2 * NUMBER,
             count,
         },
-        NumberRead::Wrong => TokenRead::Wrong,
     }
 }
 
 // An element's first token.
-fn element_at(text: &[u8], at: usize) -> TokenRead
+fn element_at(text: &[u8], at: usize) -> Option<TokenRead>
     ensures { (token_of result ≡ and_read (element_at (drop at text.now)) shaped) × Within at (length text.now) (token_of result) }
 {
     if text.len() <= at {
-        return TokenRead::Wrong;
+        return None;
     }
     let c = text[at];
     match c {
-        40 => TokenRead::Open(1),
-        34 => span_token(string_span(text, at + 1), Kind::STR, TERMINATOR as usize),
-        123 => span_token(blob_span(text, at + 1), Kind::BLOB, 0),
-        91 => vocab_token(vocab_at(text, at + 1)),
-        _ => number_token(number_at(text, at)),
+        b'(' => Some(TokenRead::Open(1)),
+        b'"' => Some(span_token(string_span(text, at + 1)?, Kind::STR, TERMINATOR as usize)),
+        b'{' => Some(span_token(blob_span(text, at + 1)?, Kind::BLOB, 0)),
+        b'[' => Some(vocab_token(vocab_at(text, at + 1)?)),
+        _ => Some(number_token(number_at(text, at)?)),
     }
 }
 
@@ -141,7 +125,7 @@ fn element_at(text: &[u8], at: usize) -> TokenRead
 fn may_begin(c: u8, first: bool) -> bool
     ensures { result ≡ (first || eqb c 32) }
 {
-    first | (c == 32)
+    first | (c == b' ')
 }
 
 // The characters that a space takes before an element. They do not depend on the text, so that the next character can be read ahead.
@@ -155,54 +139,53 @@ fn gap_before(first: bool) -> usize
 }
 
 // The same with `gap` characters before it; no element is a closing bracket.
-fn moved(read: TokenRead, gap: usize) -> TokenRead
-    requires { Within gap (2 ^ 64 - 1) (token_of read) }
-    ensures { token_of result ≡ behind_gap gap read }
+fn moved(read: TokenRead, gap: usize) -> Option<TokenRead>
+    requires { Within gap (2 ^ 64 - 1) (token_of (Some read)) }
+    ensures { token_of result ≡ behind_gap gap (Some read) }
 {
     match read {
-        TokenRead::Open(count) => TokenRead::Open(count + gap),
-        TokenRead::Close => TokenRead::Wrong,
+        TokenRead::Open(count) => Some(TokenRead::Open(count + gap)),
+        TokenRead::Close => None,
         TokenRead::Value {
             code,
             payload,
             count,
-        } => TokenRead::Value {
+        } => Some(TokenRead::Value {
             code,
             payload,
             count: count + gap,
-        },
-        TokenRead::Wrong => TokenRead::Wrong,
+        }),
     }
 }
 
 // An opening bracket with no space before it: only the first element of a list may begin so.
-fn opening(first: bool) -> TokenRead
+fn opening(first: bool) -> Option<TokenRead>
     ensures { token_of result ≡ cond first (got opened 1) wrong }
 {
     if first {
-        return TokenRead::Open(1);
+        return Some(TokenRead::Open(1));
     }
-    TokenRead::Wrong
+    None
 }
 
 // The token at an offset, with the space before it; `first` where an element that comes would be its list's first.
-pub fn token_at(text: &[u8], at: usize, first: bool) -> TokenRead
+pub fn token_at(text: &[u8], at: usize, first: bool) -> Option<TokenRead>
     ensures { (token_of result ≡ and_read (token_at first (drop at text.now)) shaped) × Within at (length text.now) (token_of result) }
 {
     if text.len() <= at {
-        return TokenRead::Wrong;
+        return None;
     }
     let c = text[at];
-    if c == 41 {
-        return TokenRead::Close;
+    if c == b')' {
+        return Some(TokenRead::Close);
     }
     // Tested here as well, so that nested lists need not be read as elements.
-    if c == 40 {
+    if c == b'(' {
         return opening(first);
     }
     if !may_begin(c, first) {
-        return TokenRead::Wrong;
+        return None;
     }
     let gap = gap_before(first);
-    moved(element_at(text, at + gap), gap)
+    moved(element_at(text, at + gap)?, gap)
 }

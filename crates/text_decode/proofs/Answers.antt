@@ -10,6 +10,9 @@ use native.Mathlib.Omega.{arith}
 use lib.Dec.{ltb}
 use lib.ListN.{length}
 use borrow.Author.Tests.{lt-ltb, le-ltb, ltb-true, ltb-false}
+use Rattle.errors.specs.declared.Error.{Error}
+use Rattle.errors.specs.Number.{number_of}
+use Rattle.errors.proofs.Numbers.{some-number}
 use Rattle.wire.specs.Area.{over}
 use Rattle.list.specs.Limits.{list_limit, depth_limit}
 use Rattle.list.specs.Tree.{Elements, none, value, list}
@@ -39,10 +42,10 @@ module _ (text rows store : List ℕ) where
   unfolding decoding_of
   decoding-read r = rw r
 
--- an error is a refusal of that number
-pub error-refused : (v : Verdict Elements) (n : ℕ) → n ≡ error_of v → (n ≡ 0 → ⊥) → v ≡ judge.refused n
-error-refused (judge.accepted es) n e z = absurd (z e)
-error-refused (judge.refused number) n e z = ap judge.refused (sym e)
+-- an error is a refusal of its number
+pub error-refused : (v : Verdict Elements) (e : Error) → number_of e ≡ error_of v → v ≡ judge.refused (number_of e)
+error-refused (judge.accepted es) e h = absurd (omega (arith, some-number e))
+error-refused (judge.refused number) e h = ap judge.refused (sym h)
 
 -- a list of legal values that is not too deep
 with-text-legal : (es : Elements) (d : ℕ) → WithText es → nested es ≤ d → LegalElements d es

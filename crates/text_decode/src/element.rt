@@ -6,12 +6,13 @@ ghost use Rattle.list.specs.RowBytes.{packed};
 ghost use Rattle.text.specs.Read.{sign_size};
 ghost use Rattle.text_decode.specs.Pieces.{cursor, FixedHere, FixedPut, ValueHere, ValuePut, number_from, int_from, float_from, vocab_from};
 
-use crate::known::{is_float, known_hex, known_high, known_int, known_letters, known_sign};
+use crate::known::{known_hex, known_high, known_int, known_letters, known_sign};
 use crate::put::{CopiedTo, put_blob, put_row, put_string};
 use list::{Kind, ROW};
+use text_value::is_float;
 
 // Where the filling stands: in the text, in the rows and in the store.
-#[derive(Drop)]
+#[derive(Clone, Copy)]
 pub struct Cursor {
     pub pos: usize,
     pub row: usize,
@@ -41,7 +42,7 @@ fn put_int(text: &[u8], x: Cursor, rows: &mut [u8], sign: usize) -> Cursor
     Cursor {
         pos: int.end,
         row: x.row + ROW,
-        used: x.used,
+        ..x
     }
 }
 
@@ -62,7 +63,7 @@ fn put_float(text: &[u8], x: Cursor, rows: &mut [u8], sign: usize) -> Cursor
     Cursor {
         pos: high.end,
         row: x.row + ROW,
-        used: x.used,
+        ..x
     }
 }
 
@@ -88,7 +89,7 @@ fn put_vocab(text: &[u8], x: Cursor, rows: &mut [u8]) -> Cursor
     Cursor {
         pos: vocab.end,
         row: x.row + ROW,
-        used: x.used,
+        ..x
     }
 }
 
@@ -101,23 +102,15 @@ pub fn put_value(text: &[u8], x: Cursor, rows: &mut [u8], store: &mut [u8]) -> C
     let c = text[at];
     let behind = at + 1;
     match c {
-        34 => {
+        b'"' => {
             let to = put_string(text, behind, store, x.used);
             put_stored(rows, x, Kind::STR, to)
         }
-        123 => {
+        b'{' => {
             let to = put_blob(text, behind, store, x.used);
             put_stored(rows, x, Kind::BLOB, to)
         }
-        91 => put_vocab(
-            text,
-            Cursor {
-                pos: behind,
-                row: x.row,
-                used: x.used,
-            },
-            rows,
-        ),
+        b'[' => put_vocab(text, Cursor { pos: behind, ..x }, rows),
         _ => put_number(text, x, rows),
     }
 }

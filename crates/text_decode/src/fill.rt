@@ -9,8 +9,9 @@ use crate::put::put_row;
 use list::{LIST_CODE, NUMBER, ROW};
 use numbers::{put_u32, u32_at};
 
-// Where the filling stands: in the text, in the rows and in the store, and the row of the innermost open list.
-#[derive(Drop)]
+// Where the filling stands: in the text, in the rows and in the store, and the row of the innermost open list. The areas are no part of it: `bump`,
+// `close_list` and put.rt's functions change only one of them, and would have to promise that the other stays.
+#[derive(Clone, Copy)]
 pub struct Place {
     pub pos: usize,
     pub row: usize,
@@ -47,7 +48,7 @@ fn behind_space(text: &[u8], pos: usize) -> usize
     requires { pos < length text.now }
     ensures { result ≡ behind_space text.now pos }
 {
-    if text[pos] == 32 {
+    if text[pos] == b' ' {
         return pos + 1;
     }
     pos
@@ -60,13 +61,13 @@ fn put_element(text: &[u8], x: Place, rows: &mut [u8], store: &mut [u8]) -> Plac
 {
     let at = behind_space(text, x.pos);
     bump(rows, x.outer);
-    if text[at] == 40 {
+    if text[at] == b'(' {
         put_row(rows, x.row, LIST_CODE, 0, x.outer as u32);
         return Place {
             pos: at + 1,
             row: x.row + ROW,
-            used: x.used,
             outer: x.row,
+            ..x
         };
     }
     let y = put_value(
@@ -93,20 +94,19 @@ fn put_token(text: &[u8], x: Place, rows: &mut [u8], store: &mut [u8]) -> Place
     ensures { Goes text.now x rows.old store.old result rows.new store.new }
 {
     let at = x.pos;
-    if text[at] == 41 {
+    if text[at] == b')' {
         let outer = close_list(rows, x.outer);
         return Place {
             pos: at + 1,
-            row: x.row,
-            used: x.used,
             outer,
+            ..x
         };
     }
     put_element(text, x, rows, store)
 }
 
 // How much was written: rows, and store bytes.
-#[derive(Drop)]
+#[derive(Clone, Copy)]
 pub struct Amounts {
     pub rows: u32,
     pub stored: usize,
@@ -117,30 +117,18 @@ pub fn fill(text: &[u8], rows: &mut [u8], store: &mut [u8]) -> Amounts
     ensures { Filled text.now rows.old store.old result rows.new store.new }
 {
     put_row(rows, 0, LIST_CODE, 0, 0);
-    let mut pos: usize = 0;
-    let mut row: usize = ROW;
-    let mut used: usize = 0;
-    let mut outer: usize = 0;
-    while pos < text.len() {
-        let x = put_token(
-            text,
-            Place {
-                pos,
-                row,
-                used,
-                outer,
-            },
-            rows,
-            store,
-        );
-        pos = x.pos;
-        row = x.row;
-        used = x.used;
-        outer = x.outer;
+    let mut x = Place {
+        pos: 0,
+        row: ROW,
+        used: 0,
+        outer: 0,
+    };
+    // No `for`: how many characters a token takes is seen as it is read.
+    while x.pos < text.len() {
+        x = put_token(text, x, rows, store);
     }
-    let count = (row / ROW) as u32;
     Amounts {
-        rows: count,
-        stored: used,
+        rows: (x.row / ROW) as u32,
+        stored: x.used,
     }
 }

@@ -1,5 +1,6 @@
-// Reads what was judged before: every test that judging makes is known to pass, and is left out.
-ghost use Rattle.std.specs.Prelude.{◌+◌, ◌-◌, ◌^◌, ◌≤◌, ◌<◌, ◌≡◌, true, cond, eqb, length, get_or, drop};
+// Reads what was judged before: every test that judging makes is known to pass, and is left out. The text and the offset are two parameters, as
+// for text_value's readers, whose definitions these answers cite.
+ghost use Rattle.std.specs.Prelude.{◌+◌, ◌-◌, ◌^◌, ◌≤◌, ◌<◌, ◌≡◌, true, cond, eqb, length, drop};
 ghost use Rattle.std.proofs.Math.Option.{some};
 ghost use Rattle.digits.specs.Decimal.{decimal_at};
 ghost use Rattle.digits.specs.Fixed.{digit_of, fixed_at};
@@ -20,7 +21,7 @@ pub fn known_decimal(text: &[u8], at: usize) -> Known
     requires { is_got (known_decimal (drop at text.now)) ≡ true }
     ensures { KnownAs (known_decimal (drop at text.now)) at result }
 {
-    if text[at] == 48 {
+    if text[at] == b'0' {
         return Known {
             bits: 0,
             end: at + 1,
@@ -28,8 +29,9 @@ pub fn known_decimal(text: &[u8], at: usize) -> Known
     }
     let mut bits: u32 = 0;
     let mut end = at;
+    // No `for`: the end of the digits is part of the answer.
     while is_digit(text, end) {
-        bits = 10 * bits + (text[end] - 48) as u32;
+        bits = 10 * bits + (text[end] - b'0') as u32;
         end += 1;
     }
     Known { bits, end }
@@ -40,14 +42,14 @@ pub fn known_byte(text: &[u8], at: usize) -> Known
     requires { is_got (decimal_at 255 (drop at text.now)) ≡ true }
     ensures { KnownAs (decimal_at 255 (drop at text.now)) at result }
 {
-    let first = (text[at] - 48) as u32;
+    let first = (text[at] - b'0') as u32;
     if (first == 0) | !is_digit(text, at + 1) {
         return Known {
             bits: first,
             end: at + 1,
         };
     }
-    let second = 10 * first + (text[at + 1] - 48) as u32;
+    let second = 10 * first + (text[at + 1] - b'0') as u32;
     if !is_digit(text, at + 2) {
         return Known {
             bits: second,
@@ -55,7 +57,7 @@ pub fn known_byte(text: &[u8], at: usize) -> Known
         };
     }
     Known {
-        bits: 10 * second + (text[at + 2] - 48) as u32,
+        bits: 10 * second + (text[at + 2] - b'0') as u32,
         end: at + 3,
     }
 }
@@ -88,10 +90,8 @@ pub fn known_hex(text: &[u8], at: usize, width: usize) -> u32
     ensures { some result ≡ fixed_at 16 width (drop at text.now) }
 {
     let mut value: u64 = 0;
-    let mut i = 0;
-    while i < width {
+    for i in 0..width {
         value = 16 * value + hex_digit(text[at + i]) as u64;
-        i += 1;
     }
     value as u32
 }
@@ -105,7 +105,7 @@ fn known_scale(text: &[u8], at: usize) -> Known
     ensures { KnownAs (scale_at (drop at text.now)) at result }
 {
     let number = known_decimal(text, at + 1);
-    if text[at] == 43 {
+    if text[at] == b'+' {
         return Known {
             bits: BIAS + number.bits,
             end: number.end,
@@ -121,7 +121,7 @@ fn known_scale(text: &[u8], at: usize) -> Known
 fn known_exponent(lead: u8, scale: u32) -> u32
     ensures { result ≡ cond (eqb lead 49) scale 0 }
 {
-    if lead == 49 {
+    if lead == b'1' {
         return scale;
     }
     0
@@ -146,10 +146,12 @@ pub fn known_letters(text: &[u8], at: usize) -> Known
     requires { is_got (vocab_at (drop at text.now)) ≡ true }
     ensures { KnownAs (vocab_at (drop at text.now)) at result }
 {
+    // The letters come one by one and may be fewer than four, so they are added up and not taken as an array of four bytes.
     let mut bits: u64 = 0;
     let mut unit: u64 = 1;
     let mut end = at;
-    while text[end] != 93 {
+    // No `for`: the closing bracket is known to come, and its place is part of the answer.
+    while text[end] != b']' {
         bits = bits + text[end] as u64 * unit;
         unit = unit * 256;
         end += 1;
@@ -172,8 +174,8 @@ fn known_escape(text: &[u8], at: usize) -> Known
             end: at + 2,
         };
     }
-    let high = 64 * (c - 48) as u32;
-    let low = 8 * (text[at + 2] - 48) as u32 + (text[at + 3] - 48) as u32;
+    let high = 64 * (c - b'0') as u32;
+    let low = 8 * (text[at + 2] - b'0') as u32 + (text[at + 3] - b'0') as u32;
     Known {
         bits: high + low,
         end: at + 4,
@@ -186,7 +188,7 @@ pub fn known_char(text: &[u8], at: usize) -> Known
     ensures { KnownAs (char_at (drop at text.now)) at result }
 {
     let c = text[at];
-    if c == 92 {
+    if c == b'\\' {
         return known_escape(text, at);
     }
     Known {
@@ -195,7 +197,7 @@ pub fn known_char(text: &[u8], at: usize) -> Known
     }
 }
 
-// Behind the space before a byte of a blob; the first has none.
+// Behind the space before a byte of a blob; the first has none, and `first` is the definition's own argument.
 pub fn behind_gap(at: usize, first: bool) -> usize
     requires { at < 2 ^ 64 - 1 }
     ensures { result ≡ cond first at (at + 1) }
@@ -211,19 +213,8 @@ pub fn known_sign(text: &[u8], at: usize) -> usize
     requires { at < length text.now }
     ensures { result ≡ sign_size (drop at text.now) }
 {
-    if text[at] == 45 {
+    if text[at] == b'-' {
         return 1;
     }
     0
-}
-
-// Behind the sign and a digit a float has an x.
-pub fn is_float(text: &[u8], at: usize) -> bool
-    requires { at < length text.now }
-    ensures { result ≡ eqb (get_or text.now (at + 1) 0) 120 }
-{
-    if at + 1 < text.len() {
-        return text[at + 1] == 120;
-    }
-    false
 }

@@ -13,8 +13,7 @@ pub fn put_row(rows: &mut [u8], at: usize, code: u32, second: u32, third: u32)
     requires { at + 12 ≤ length rows.old }
     ensures { rows.new ≡ sets rows.old at (packed (code ∷ second ∷ third ∷ [])) }
 {
-    let row = list::row_bytes(code, second, third);
-    wire::copy_at(&mut rows[at..at + ROW], 0, &row);
+    rows[at..at + ROW].copy_from_slice(&list::row_bytes(code, second, third));
 }
 
 // Where the copying of a string or a blob ends: behind its characters, and behind its bytes in the store.
@@ -31,7 +30,8 @@ pub fn put_string(text: &[u8], at: usize, store: &mut [u8], used: usize) -> Copi
 {
     let mut pos = at;
     let mut end = used;
-    while text[pos] != 34 {
+    // No `for`: a character's size is seen as it is read, and the closing quote is known to come.
+    while text[pos] != b'"' {
         let char = known_char(text, pos);
         store[end] = char.bits as u8;
         pos = char.end;
@@ -50,7 +50,8 @@ pub fn put_blob(text: &[u8], at: usize, store: &mut [u8], used: usize) -> Copied
 {
     let mut pos = at;
     let mut end = used;
-    while text[pos] != 125 {
+    // No `for`: a number's size is seen as it is read, and the closing brace is known to come.
+    while text[pos] != b'}' {
         let byte = known_byte(text, behind_gap(pos, end == used));
         store[end] = byte.bits as u8;
         pos = byte.end;

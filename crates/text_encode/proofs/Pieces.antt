@@ -1,13 +1,11 @@
 -- Laws of a string's characters and of a blob's numbers, one byte after the other.
 use Prim.Native.Nat.{ℕ, ◌+◌, ◌≤◌, ◌<◌}
 use mathlib.Core.Path.{◌≡◌}
+use mathlib.Core.Bool.{Bool, false}
 use mathlib.Core.List.{List, [], ◌++◌}
-use native.Mathlib.Omega.{arith}
 use native.Mathlib.Numerals.{add-one}
-use lib.Dec.{eqb}
 use lib.ListN.{length, drop, get_or, drop_of_length-le}
 use lib.Seq.{drop-cons}
-use borrow.Author.Tests.{ne_eqb}
 use Rattle.digits.specs.Decimal.{decimal}
 use Rattle.text.specs.Text.{gap, char_text, chars_text, bytes_text}
 
@@ -21,8 +19,8 @@ module _ (bs : List ℕ) (i : ℕ) where
 
   -- the space before byte i, its number, and what stands behind
   pub bytes-more :
-      i < length bs → bytes_text (eqb i 0) (drop i bs) ≡ gap (eqb i 0) ++ (decimal (get_or bs i 0) ++ bytes_text (eqb (i + 1) 0) (drop (i + 1) bs))
-  bytes-more h = rw (ne_eqb (i + 1) 0 (λ e. omega arith), add-one, drop-cons bs i 0 h)
+      (first : Bool) → i < length bs → bytes_text first (drop i bs) ≡ gap first ++ (decimal (get_or bs i 0) ++ bytes_text false (drop (i + 1) bs))
+  bytes-more first h = rw (add-one, drop-cons bs i 0 h)
 
-  pub bytes-none : length bs ≤ i → bytes_text (eqb i 0) (drop i bs) ≡ []
-  bytes-none h = rw (drop_of_length-le bs h)
+  pub bytes-none : (first : Bool) → length bs ≤ i → bytes_text first (drop i bs) ≡ []
+  bytes-none first h = rw (drop_of_length-le bs h)

@@ -4,7 +4,7 @@ use mathlib.Core.Path.{◌≡◌, refl, sym, ap, ◌∙◌}
 use mathlib.Core.Bool.{true, false, cond, not, ◌&&◌}
 use mathlib.Core.List.{List, [], ◌∷◌, ◌++◌, append_assoc}
 use native.Mathlib.Omega.{arith}
-use native.Mathlib.Nat.{add-zero, zero-add}
+use native.Mathlib.Nat.{add-zero}
 use lib.Dec.{eqb, leb, ltb}
 use lib.ListN.{length, length-append}
 use lib.Seq.{sets, length-sets}
@@ -21,8 +21,7 @@ use Rattle.list_rows.proofs.Rows.{both, front-row, few-left}
 use Rattle.list_rows.proofs.Sizes.{stored-turn}
 use Rattle.list_rows.proofs.Nestings.{next-element, next-end, next-close}
 use Rattle.text.specs.Text.{gap}
-use Rattle.text_encode.specs.declared.emit.Cursor.{Cursor}
-use Rattle.text_encode.specs.Spell.{row_text, closing, spell, spell_list, to_come, opened, closed, value_next, Underway}
+use Rattle.text_encode.specs.Spell.{row_text, closing, spell, spell_list, Place, to_come, opened, closed, value_next, Underway}
 
 -- the row of a list uses no byte of the store
 list-stored : (r : Row) → r.code ≡ list_code → stored r ≡ 0
@@ -90,10 +89,10 @@ module _ (rows : List ℕ) (at left : ℕ) where
 pub part-size : (a b : ℕ) → a + b - a ≡ b
 part-size a b = omega arith
 
-abbrev pub cursor : ℕ → ℕ → ℕ → ℕ → Cursor
-cursor row used end left = record { row = row; used = used; end = end; left = left }
+abbrev pub place_of : ℕ → ℕ → ℕ → ℕ → Place
+place_of row used end left = record { row = row; used = used; end = end; left = left }
 
-module _ {rows store whole : List ℕ} {size : ℕ} {text outer : List ℕ} {x : Cursor} (g : Underway rows store whole size text outer x) where
+module _ {rows store whole : List ℕ} {size : ℕ} {text outer : List ℕ} {x : Place} (g : Underway rows store whole size text outer x) where
   -- the area has the length that it has at the end
   pub whole-size : length whole ≡ length text
   whole-size = ap length g.area ∙ length-sets text x.end (to_come rows store outer x)
@@ -102,9 +101,9 @@ module _ {rows store whole : List ℕ} {size : ℕ} {text outer : List ℕ} {x :
   ended : to_come rows store outer x ≡ [] → (text ≡ whole) × (x.end ≡ size)
   ended e = (sym (g.area ∙ ap (sets text x.end) e), sym (g.all ∙ ap (λ (t : List ℕ). x.end + length t) e ∙ add-zero x.end))
 
-  -- some text was written, and the rest is to come from another cursor on
+  -- some text was written, and the rest is to come from another place on
   goes :
-      (around front next : List ℕ) (y : Cursor) → to_come rows store outer x ≡ front ++ to_come rows store around y → next ≡ sets text x.end front
+      (around front next : List ℕ) (y : Place) → to_come rows store outer x ≡ front ++ to_come rows store around y → next ≡ sets text x.end front
       → y.end ≡ x.end + length front → y.used + stored_from (rows_from rows y.row) ≤ length store → Underway rows store whole size next around y
   goes around front next y e is-next is-end up =
       let same : length next ≡ length text = ap length is-next ∙ length-sets text x.end front in
@@ -138,7 +137,7 @@ module _ {rows store whole : List ℕ} {size : ℕ} {text outer : List ℕ} {x :
       pub close-room : x.end + length (closing n) ≤ length text
       close-room = room (closing n) _ to-close
 
-      pub close-goes : (next : List ℕ) (y : Cursor) → next ≡ sets text x.end (closing n) → y ≡ closed n x → Underway rows store whole size next around y
+      pub close-goes : (next : List ℕ) (y : Place) → next ≡ sets text x.end (closing n) → y ≡ closed n x → Underway rows store whole size next around y
       close-goes next y is-next is_y = rw is_y (goes around (closing n) next (closed n x) to-close is-next refl g.inside)
 
   -- AN ELEMENT IS TO COME
@@ -191,9 +190,9 @@ module _ {rows store whole : List ℕ} {size : ℕ} {text outer : List ℕ} {x :
 
           pub value-goes :
               (text₂ : List ℕ) (end₂ : ℕ) → text₂ ≡ sets text₁ end₁ (gap (eqb (x.left - 1) 0)) → end₂ ≡ end₁ + length (gap (eqb (x.left - 1) 0))
-              → Underway rows store whole size text₂ outer (cursor (x.row + 1) (x.used + t) end₂ (x.left - 1))
+              → Underway rows store whole size text₂ outer (place_of (x.row + 1) (x.used + t) end₂ (x.left - 1))
           value-goes text₂ end₂ w₂ e₂ =
-              goes outer (a ++ b) text₂ (cursor (x.row + 1) (x.used + t) end₂ (x.left - 1)) valued
+              goes outer (a ++ b) text₂ (place_of (x.row + 1) (x.used + t) end₂ (x.left - 1)) valued
               (joined text x.end end₁ a b e₁ w₁ w₂) (omega (arith, e₁, e₂, length-append a b)) (omega (arith, behind-row))
 
       -- a list
@@ -209,12 +208,12 @@ module _ {rows store whole : List ℕ} {size : ℕ} {text outer : List ℕ} {x :
           open-room = omega (arith, room (40 ∷ []) _ to-open)
 
           pub open-goes :
-              (next : List ℕ) (y : Cursor) → next ≡ sets text x.end (40 ∷ []) → y ≡ opened rows x
+              (next : List ℕ) (y : Place) → next ≡ sets text x.end (40 ∷ []) → y ≡ opened rows x
               → Underway rows store whole size next ((x.left - 1) ∷ outer) y
           open-goes next y is-next is_y =
-              let e : opened rows x ≡ cursor (x.row + 1) x.used (x.end + 1) r.second =
-              ap (λ (q : Row). cursor (x.row + 1) x.used (x.end + 1) q.second) (sym is-r) in
-              rw (is_y ∙ e) (goes ((x.left - 1) ∷ outer) (40 ∷ []) next (cursor (x.row + 1) x.used (x.end + 1) r.second) to-open is-next refl
+              let e : opened rows x ≡ place_of (x.row + 1) x.used (x.end + 1) r.second =
+              ap (λ (q : Row). place_of (x.row + 1) x.used (x.end + 1) q.second) (sym is-r) in
+              rw (is_y ∙ e) (goes ((x.left - 1) ∷ outer) (40 ∷ []) next (place_of (x.row + 1) x.used (x.end + 1) r.second) to-open is-next refl
               (omega (arith, behind-row, list-stored r nest)))
 
 -- ALL OF A LIST: r is its row
@@ -226,15 +225,16 @@ first-stored (a ∷ b ∷ []) = omega arith
 first-stored (a ∷ b ∷ c ∷ rows) = omega arith
 
 pub started :
-    (rows store text : List ℕ) (r : Row) → r ≡ row_at rows 0 → stored_from rows ≤ length store → length (spell_list rows store) ≤ length text
-    → Underway rows store (sets text 0 (spell_list rows store)) (length (spell_list rows store)) text [] (cursor 1 0 0 r.second)
+    (rows store text : List ℕ) (end : ℕ) (r : Row) → r ≡ row_at rows 0 → stored_from rows ≤ length store
+    → end + length (spell_list rows store) ≤ length text
+    → Underway rows store (sets text end (spell_list rows store)) (end + length (spell_list rows store)) text [] (place_of 1 0 end r.second)
 unfolding spell_list
-started rows store text r is-r there fits =
+started rows store text end r is-r there fits =
     let e : spell store (rows_from rows 1) 0 [] (row_at rows 0).second ≡ spell store (rows_from rows 1) 0 [] r.second =
     ap (λ (q : Row). spell store (rows_from rows 1) 0 [] q.second) (sym is-r) in
     record {
-      area = ap (sets text 0) e;
-      all = ap length e ∙ sym (zero-add _);
+      area = ap (sets text end) e;
+      all = ap (λ (l : List ℕ). end + length l) e;
       fits = fits;
       inside = omega (arith, first-stored rows);
     }

@@ -8,91 +8,66 @@ use lib.Arith.{mod-mul}
 use lib.ListN.{length, set, length-append}
 use lib.Seq.{sets, set_comm, length-sets}
 use borrow.Author.Tests.{lt-ltb, le-ltb}
-use Rattle.wire.proofs.Buffers.{sets_more}
+use Rattle.wire.proofs.Buffers.{sets_more, joined}
 use Rattle.digits.specs.Fixed.{glyph, fixed}
 use Rattle.digits.specs.Decimal.{decimal_of, decimal}
 use Rattle.digits.proofs.Fixing.{fixed-length}
 use Rattle.digits.proofs.Decimals.{decimal-fixed}
+use Rattle.text_encode.specs.declared.writer.Writer.{Writer}
+use Rattle.text_encode.specs.Writer.{HasRoom, Wrote}
 
--- `whole` was to be written at `at` into `text₀`; now `rest` is still to be written at `end` into `text`, and there is room for it
-pub record Left (text₀ : List ℕ) (at : ℕ) (whole text : List ℕ) (end : ℕ) (rest : List ℕ) : Type 0 where
-  pub same : sets text₀ at whole ≡ sets text end rest
-  pub far : at + length whole ≡ end + length rest
-  pub long : length text ≡ length text₀
-  pub room : end + length rest ≤ length text
+-- a piece that is written in parts: there is room for the first, then for the others, and all was written
+pub room_first : {w : Writer} (xs ys : List ℕ) → HasRoom w (xs ++ ys) → HasRoom w xs
+room_first {w} xs ys h = record { fits = omega (arith, h.fits, length-append xs ys) }
 
-pub left-all : (text : List ℕ) (at : ℕ) (whole : List ℕ) → at + length whole ≤ length text → Left text at whole text at whole
-left-all text at whole h = record { same = refl; far = refl; long = refl; room = h }
+pub room_next : {w v : Writer} {xs : List ℕ} (ys : List ℕ) → Wrote w v xs → HasRoom w (xs ++ ys) → HasRoom v ys
+room_next {w} {v} {xs} ys d h =
+    record { fits = omega (arith, h.fits, length-append xs ys, d.end, ap length d.text ∙ length-sets w.text.now w.end xs) }
 
-module _ {text₀ : List ℕ} {at : ℕ} {whole text : List ℕ} {end : ℕ} {rest : List ℕ} where
+pub wrote_more : {w v u : Writer} {xs ys : List ℕ} → Wrote w v xs → Wrote v u ys → Wrote w u (xs ++ ys)
+wrote_more {w} {v} {u} {xs} {ys} d e =
+    record {
+      same_area = e.same_area ∙ d.same_area;
+      text = joined w.text.now w.end v.end xs ys d.end d.text e.text;
+      end = omega (arith, d.end, e.end, length-append xs ys);
+    }
+
+pub wrote_none : (w : Writer) → Wrote w w []
+wrote_none w = record { same_area = refl; text = refl; end = omega arith }
+
+-- `whole` was to be written by w, and `rest` is still to be written by v
+pub record Left (w : Writer) (whole : List ℕ) (v : Writer) (rest : List ℕ) : Type 0 where
+  pub same_area : v.text.ghost_name ≡ w.text.ghost_name
+  pub same : sets w.text.now w.end whole ≡ sets v.text.now v.end rest
+  pub far : w.end + length whole ≡ v.end + length rest
+  pub room : HasRoom v rest
+
+pub left-all : (w : Writer) (whole : List ℕ) → HasRoom w whole → Left w whole w whole
+left-all w whole h = record { same_area = refl; same = refl; far = refl; room = h }
+
+module _ {w v : Writer} {whole rest : List ℕ} where
   -- there is room for the next piece
-  pub left-room : (xs more : List ℕ) → Left text₀ at whole text end rest → rest ≡ xs ++ more → end + length xs ≤ length text
-  left-room xs more l e = omega (arith, l.room, ap length e, length-append xs more)
+  pub left-room : (xs more : List ℕ) → Left w whole v rest → rest ≡ xs ++ more → HasRoom v xs
+  left-room xs more l e = room_first xs more (rw e at l.room)
 
   -- the next piece is written
-  pub left-next :
-      {next : List ℕ} {last : ℕ} (xs more : List ℕ) → Left text₀ at whole text end rest → rest ≡ xs ++ more → next ≡ sets text end xs
-      → last ≡ end + length xs → Left text₀ at whole next last more
-  left-next {next} {last} xs more l e f g =
-      let n : length next ≡ length text = ap length f ∙ length-sets text end xs in
-      let k : length rest ≡ length xs + length more = ap length e ∙ length-append xs more in
+  pub left-next : {u : Writer} (xs more : List ℕ) → Left w whole v rest → rest ≡ xs ++ more → Wrote v u xs → Left w whole u more
+  left-next {u} xs more l e d =
       record {
-        same = l.same ∙ ap (sets text end) e ∙ sym (ap (λ (t : List ℕ). sets t last more) f ∙ sets_more text xs more end last g);
-        far = omega (arith, l.far);
-        long = n ∙ l.long;
-        room = omega (arith, l.room);
+        same_area = d.same_area ∙ l.same_area;
+        same = l.same ∙ ap (sets v.text.now v.end) e ∙ sym (ap (λ (t : List ℕ). sets t u.end more) d.text ∙ sets_more v.text.now xs more v.end u.end d.end);
+        far = omega (arith, l.far, ap length e, length-append xs more, d.end);
+        room = room_next more d (rw e at l.room);
       }
 
   -- nothing is left
-  pub left-none : Left text₀ at whole text end rest → rest ≡ [] → (text ≡ sets text₀ at whole) × (end ≡ at + length whole)
-  left-none l e = (sym (l.same ∙ ap (sets text end) e), omega (arith, l.far, ap length e))
-
--- all that is left is written
-pub left_end :
-    {text₀ : List ℕ} {at : ℕ} {whole text : List ℕ} {end : ℕ} {rest next : List ℕ} {last : ℕ} → Left text₀ at whole text end rest
-    → next ≡ sets text end rest → last ≡ end + length rest → (next ≡ sets text₀ at whole) × (last ≡ at + length whole)
-left_end l e f = (e ∙ sym l.same, omega (arith, l.far))
-
--- the text stays as long as it was
-pub left-length :
-    {text₀ : List ℕ} {at : ℕ} {whole text : List ℕ} {end : ℕ} {rest next : List ℕ} → Left text₀ at whole text end rest
-    → next ≡ sets text end rest → length next ≡ length text₀
-left-length {text = text} {end = end} {rest = rest} l e = ap length e ∙ length-sets text end rest ∙ l.long
-
--- characters, one behind the other
-pub two-set : (text : List ℕ) (at a b : ℕ) → set (set text at a) (at + 1) b ≡ sets text at (a ∷ b ∷ [])
-two-set text at a b = let e : at + 1 ≡ suc at = omega arith in rw e
-
-pub four-set :
-    (text : List ℕ) (at a b c d : ℕ) → set (set (set (set text at a) (at + 1) b) (at + 2) c) (at + 3) d ≡ sets text at (a ∷ b ∷ c ∷ d ∷ [])
-four-set text at a b c d =
-    let e : at + 1 ≡ suc at = omega arith in
-    let f : at + 2 ≡ suc (suc at) = omega arith in
-    let g : at + 3 ≡ suc (suc (suc at)) = omega arith in
-    rw (e, f, g)
-
-pub three-set : (text : List ℕ) (at a b c : ℕ) → set (set (set text at a) (at + 1) b) (at + 2) c ≡ sets text at (a ∷ b ∷ c ∷ [])
-three-set text at a b c =
-    let e : at + 1 ≡ suc at = omega arith in
-    let f : at + 2 ≡ suc (suc at) = omega arith in
-    rw (e, f)
-
--- the first character, and the first two
-pub first-put :
-    (text : List ℕ) (at x : ℕ) (xs : List ℕ) → at + length (x ∷ xs) ≤ length text → Left text at (x ∷ xs) (set text at x) (at + 1) xs
-first-put text at x xs room = left-next (x ∷ []) xs (left-all text at (x ∷ xs) room) refl refl refl
-
-pub first-two-put :
-    (text : List ℕ) (at x y : ℕ) (xs : List ℕ) → at + length (x ∷ y ∷ xs) ≤ length text
-    → Left text at (x ∷ y ∷ xs) (set (set text at x) (at + 1) y) (at + 2) xs
-first-two-put text at x y xs room = left-next (x ∷ y ∷ []) xs (left-all text at (x ∷ y ∷ xs) room) refl (two-set text at x y) refl
-
--- a piece between two characters, of which the second is left
-pub enclosed :
-    (text : List ℕ) (at left right : ℕ) (xs : List ℕ) {mid : List ℕ} {end : ℕ} → at + length (left ∷ (xs ++ (right ∷ []))) ≤ length text
-    → mid ≡ sets (set text at left) (at + 1) xs → end ≡ at + 1 + length xs → Left text at (left ∷ (xs ++ (right ∷ []))) mid end (right ∷ [])
-enclosed text at left right xs room e f =
-    left-next xs (right ∷ []) (first-put text at left (xs ++ (right ∷ [])) room) refl e f
+  pub left-none : Left w whole v rest → rest ≡ [] → Wrote w v whole
+  left-none l e =
+      record {
+        same_area = l.same_area;
+        text = sym (l.same ∙ ap (sets v.text.now v.end) e);
+        end = omega (arith, l.far, ap length e);
+      }
 
 -- a character behind a piece may be written before it
 set-behind :

@@ -1,2 +1,3 @@
 pub mod Encode
 pub mod Spell
+pub mod Writer

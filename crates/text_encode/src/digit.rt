@@ -1,31 +1,19 @@
-// Digits, from the last to the first. There is room for what each of these functions writes.
+// Digits, from the last to the first.
 ghost use Rattle.std.specs.Prelude.{◌+◌, ◌≤◌, ◌<◌, ◌≡◌, length};
-ghost use Rattle.std.proofs.lemmas.List.Edits.{sets};
 ghost use Rattle.digits.specs.Decimal.{decimal};
 ghost use Rattle.digits.specs.Fixed.{glyph, fixed};
+ghost use Rattle.text_encode.specs.Writer.{HasRoom, Wrote};
+
+use crate::writer::Writer;
 
 fn digit(d: u32) -> u8
     requires { d < 16 }
     ensures { result ≡ glyph d }
 {
     if d < 10 {
-        return 48 + d as u8;
+        return b'0' + d as u8;
     }
-    87 + d as u8
-}
-
-// `width` hexadecimal digits.
-pub fn put_hex(text: &mut [u8], at: usize, width: usize, n: u32)
-    requires { at + width ≤ length text.old }
-    ensures { text.new ≡ sets text.old at (fixed 16 width n) }
-{
-    let mut left = n;
-    let mut i = width;
-    while 0 < i {
-        i -= 1;
-        text[at + i] = digit(left % 16);
-        left = left / 16;
-    }
+    b'a' + (d - 10) as u8
 }
 
 // How many decimal digits a number has.
@@ -69,31 +57,49 @@ fn large_count(n: u32) -> usize
     10
 }
 
-// Two digits at a time: each division needs the result of the one before it, and so there are half as many.
-fn put_digits(text: &mut [u8], at: usize, count: usize, n: u32)
-    requires { at + count ≤ length text.old }
-    ensures { text.new ≡ sets text.old at (fixed 10 count n) }
-{
-    let mut left = n;
-    let mut i = count;
-    while 1 < i {
-        let pair = left % 100;
-        text[at + (i - 1)] = digit(pair % 10);
-        text[at + (i - 2)] = digit(pair / 10);
-        left = left / 100;
-        i -= 2;
+impl<'a> Writer<'a> {
+    // `width` hexadecimal digits.
+    pub fn put_hex(&mut self, width: usize, n: u32)
+        requires { HasRoom self.old (fixed 16 width n) }
+        ensures { Wrote self.old self.new (fixed 16 width n) }
+    {
+        let at = self.end;
+        self.end += width;
+        let mut left = n;
+        for i in (0..width).rev() {
+            self.text[at + i] = digit(left % 16);
+            left = left / 16;
+        }
     }
-    if i == 1 {
-        text[at] = digit(left % 10);
-    }
-}
 
-// A number in decimal; answers the end of it.
-pub fn put_decimal(text: &mut [u8], at: usize, n: u32) -> usize
-    requires { at + length (decimal n) ≤ length text.old }
-    ensures { (text.new ≡ sets text.old at (decimal n)) × (result ≡ at + length (decimal n)) }
-{
-    let count = digit_count(n);
-    put_digits(text, at, count, n);
-    at + count
+    // Two digits at a time: each division needs the result of the one before it, and so there are half as many. So the loop is no `for`:
+    // it goes by two, and says whether a digit is left.
+    fn put_digits(&mut self, count: usize, n: u32)
+        requires { HasRoom self.old (fixed 10 count n) }
+        ensures { Wrote self.old self.new (fixed 10 count n) }
+    {
+        let at = self.end;
+        self.end += count;
+        let mut left = n;
+        let mut i = count;
+        while 1 < i {
+            let pair = left % 100;
+            self.text[at + (i - 1)] = digit(pair % 10);
+            self.text[at + (i - 2)] = digit(pair / 10);
+            left = left / 100;
+            i -= 2;
+        }
+        if i == 1 {
+            self.text[at] = digit(left % 10);
+        }
+    }
+
+    // A number in decimal.
+    pub fn put_decimal(&mut self, n: u32)
+        requires { HasRoom self.old (decimal n) }
+        ensures { Wrote self.old self.new (decimal n) }
+    {
+        let count = digit_count(n);
+        self.put_digits(count, n);
+    }
 }

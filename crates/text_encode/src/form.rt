@@ -16,6 +16,7 @@ fn is_vocab(bits: u32) -> bool
         return false;
     }
     let mut left = bits;
+    // No `for`: the bytes above the last letter are none of the vocab's, and no index is counted.
     while 0 < left {
         if !is_letter((left % 256) as u8) {
             return false;
@@ -32,6 +33,7 @@ fn is_finite(high: u32) -> bool
     high / 0x10_0000 % 2048 != 2047
 }
 
+// Two codes need a look; by `Kind` the match would have arms for all five and for none.
 fn row_has_form(row: Row) -> bool
     ensures { result ≡ row_form row }
 {
@@ -47,13 +49,10 @@ fn row_has_form(row: Row) -> bool
 pub fn have_form(rows: &[u8]) -> bool
     ensures { result ≡ rows_form (unpacked rows.now) }
 {
-    let count = row_count(rows);
-    let mut i = 0;
-    while i < count {
+    for i in 0..row_count(rows) {
         if !row_has_form(list::row_at(rows, i)) {
             return false;
         }
-        i += 1;
     }
     true
 }

@@ -1,47 +1,13 @@
 // Ints and floats.
-ghost use Rattle.std.specs.Prelude.{◌+◌, ◌≤◌, ◌<◌, ◌^◌, ◌≡◌, [], ◌∷◌, length};
-ghost use Rattle.std.proofs.lemmas.List.Edits.{sets};
+ghost use Rattle.std.specs.Prelude.{◌<◌, ◌^◌, ◌≡◌};
 ghost use Rattle.text.specs.Text.{int_text, exponent_of, sign_text, scale_text, scale_of, lead_of, frame_text, float_text};
+ghost use Rattle.text_encode.specs.Writer.{HasRoom, Wrote};
 
-use crate::digit::{put_decimal, put_hex};
+use crate::writer::Writer;
 use list::NEGATIVE;
-
-// One character; answers the end of it.
-pub fn put_char(text: &mut [u8], at: usize, c: u8) -> usize
-    requires { at < length text.old }
-    ensures { (text.new ≡ sets text.old at (c ∷ [])) × (result ≡ at + 1) }
-{
-    text[at] = c;
-    at + 1
-}
-
-pub fn put_int(text: &mut [u8], at: usize, bits: u32) -> usize
-    requires { at + length (int_text bits) ≤ length text.old }
-    ensures { (text.new ≡ sets text.old at (int_text bits)) × (result ≡ at + length (int_text bits)) }
-{
-    if bits < NEGATIVE {
-        return put_decimal(text, at, bits);
-    }
-    text[at] = 45;
-    put_decimal(text, at + 1, (0x1_0000_0000 - bits as u64) as u32)
-}
 
 // The bits of the exponent 0.
 const BIAS: u32 = 1023;
-
-// p and the exponent of its bits.
-fn put_scale(text: &mut [u8], at: usize, bits: u32) -> usize
-    requires { (at + length (scale_text bits) ≤ length text.old) × (bits < 2 ^ 11) }
-    ensures { (text.new ≡ sets text.old at (scale_text bits)) × (result ≡ at + length (scale_text bits)) }
-{
-    text[at] = 112;
-    if BIAS <= bits {
-        text[at + 1] = 43;
-        return put_decimal(text, at + 2, bits - BIAS);
-    }
-    text[at + 1] = 45;
-    put_decimal(text, at + 2, BIAS - bits)
-}
 
 fn exponent_of(high: u32) -> u32
     ensures { (result ≡ exponent_of high) × (result < 2 ^ 11) }
@@ -49,7 +15,8 @@ fn exponent_of(high: u32) -> u32
     high / 0x10_0000 % 2048
 }
 
-// The exponent bits whose scale is written.
+// The exponent bits whose scale is written. A float goes by its two halves, as a row holds them and the definitions take them; a struct of
+// both would only be made from a row and taken apart again.
 fn scale_of(low: u32, high: u32) -> u32
     ensures { (result ≡ scale_of low high) × (result < 2 ^ 11) }
 {
@@ -67,40 +34,67 @@ fn lead_of(high: u32) -> u8
     ensures { result ≡ lead_of high }
 {
     if exponent_of(high) == 0 {
-        return 48;
+        return b'0';
     }
-    49
+    b'1'
 }
 
-fn put_sign(text: &mut [u8], at: usize, high: u32) -> usize
-    requires { at + length (sign_text high) ≤ length text.old }
-    ensures { (text.new ≡ sets text.old at (sign_text high)) × (result ≡ at + length (sign_text high)) }
-{
-    if high < NEGATIVE {
-        return at;
+impl<'a> Writer<'a> {
+    pub fn put_int(&mut self, bits: u32)
+        requires { HasRoom self.old (int_text bits) }
+        ensures { Wrote self.old self.new (int_text bits) }
+    {
+        if bits < NEGATIVE {
+            self.put_decimal(bits);
+        } else {
+            self.put(b'-');
+            self.put_decimal((0x1_0000_0000 - bits as u64) as u32);
+        }
     }
-    text[at] = 45;
-    at + 1
-}
 
-// The digits of a float: 0x, the lead, a point and 13 digits, at the front of an area.
-fn put_frame(text: &mut [u8], at: usize, low: u32, high: u32)
-    requires { at + 17 ≤ length text.old }
-    ensures { text.new ≡ sets text.old at (frame_text low high) }
-{
-    text[at] = 48;
-    text[at + 1] = 120;
-    text[at + 2] = lead_of(high);
-    text[at + 3] = 46;
-    put_hex(text, at + 4, 5, high % 0x10_0000);
-    put_hex(text, at + 9, 8, low);
-}
+    // p and the exponent of its bits.
+    fn put_scale(&mut self, bits: u32)
+        requires { HasRoom self.old (scale_text bits) × (bits < 2 ^ 11) }
+        ensures { Wrote self.old self.new (scale_text bits) }
+    {
+        self.put(b'p');
+        if BIAS <= bits {
+            self.put(b'+');
+            self.put_decimal(bits - BIAS);
+        } else {
+            self.put(b'-');
+            self.put_decimal(BIAS - bits);
+        }
+    }
 
-pub fn put_float(text: &mut [u8], at: usize, low: u32, high: u32) -> usize
-    requires { at + length (float_text low high) ≤ length text.old }
-    ensures { (text.new ≡ sets text.old at (float_text low high)) × (result ≡ at + length (float_text low high)) }
-{
-    let first = put_sign(text, at, high);
-    put_frame(text, first, low, high);
-    put_scale(text, first + 17, scale_of(low, high))
+    fn put_sign(&mut self, high: u32)
+        requires { HasRoom self.old (sign_text high) }
+        ensures { Wrote self.old self.new (sign_text high) }
+    {
+        if NEGATIVE <= high {
+            self.put(b'-');
+        }
+    }
+
+    // The digits of a float: 0x, the lead, a point and 13 digits.
+    fn put_frame(&mut self, low: u32, high: u32)
+        requires { HasRoom self.old (frame_text low high) }
+        ensures { Wrote self.old self.new (frame_text low high) }
+    {
+        self.put(b'0');
+        self.put(b'x');
+        self.put(lead_of(high));
+        self.put(b'.');
+        self.put_hex(5, high % 0x10_0000);
+        self.put_hex(8, low);
+    }
+
+    pub fn put_float(&mut self, low: u32, high: u32)
+        requires { HasRoom self.old (float_text low high) }
+        ensures { Wrote self.old self.new (float_text low high) }
+    {
+        self.put_sign(high);
+        self.put_frame(low, high);
+        self.put_scale(scale_of(low, high));
+    }
 }

@@ -1,132 +1,118 @@
 // Strings, blobs and vocabs.
-ghost use Rattle.std.specs.Prelude.{◌+◌, ◌≤◌, ◌≡◌, true, length};
-ghost use Rattle.std.proofs.lemmas.List.Edits.{sets};
+ghost use Rattle.std.specs.Prelude.{true, ◌∷◌};
 ghost use Rattle.digits.specs.Decimal.{decimal};
-ghost use Rattle.text.specs.Text.{gap, char_text, chars_text, string_text, bytes_text, blob_text, letters, vocab_text};
+ghost use Rattle.digits.specs.Fixed.{fixed};
+ghost use Rattle.text.specs.Text.{char_text, chars_text, string_text, bytes_text, blob_text, letters, vocab_text};
+ghost use Rattle.text_encode.specs.Writer.{HasRoom, Wrote};
 
+use crate::writer::Writer;
 use text_value::{is_marked, is_printed};
 
-// A byte with its escape; answers the end of it.
-fn put_char_text(text: &mut [u8], at: usize, b: u8) -> usize
-    requires { at + length (char_text b) ≤ length text.old }
-    ensures { (text.new ≡ sets text.old at (char_text b)) × (result ≡ at + length (char_text b)) }
-{
-    if is_printed(b) {
-        if is_marked(b) {
-            text[at] = 92;
-            text[at + 1] = b;
-            return at + 2;
+impl<'a> Writer<'a> {
+    // A backslash and three octal digits. The end moves once: a string of 3,900 such bytes takes 83,417 instructions, by four puts 87,317.
+    fn put_octal(&mut self, b: u8)
+        requires { HasRoom self.old (92 ∷ fixed 8 3 b) }
+        ensures { Wrote self.old self.new (92 ∷ fixed 8 3 b) }
+    {
+        let at = self.end;
+        self.text[at] = b'\\';
+        self.text[at + 1] = b'0' + b / 64;
+        self.text[at + 2] = b'0' + b / 8 % 8;
+        self.text[at + 3] = b'0' + b % 8;
+        self.end += 4;
+    }
+
+    // A byte with its escape.
+    fn put_char_text(&mut self, b: u8)
+        requires { HasRoom self.old (char_text b) }
+        ensures { Wrote self.old self.new (char_text b) }
+    {
+        if is_printed(b) {
+            if is_marked(b) {
+                self.put(b'\\');
+            }
+            self.put(b);
+        } else {
+            self.put_octal(b);
         }
-        text[at] = b;
-        return at + 1;
     }
-    text[at] = 92;
-    text[at + 1] = 48 + b / 64;
-    text[at + 2] = 48 + b / 8 % 8;
-    text[at + 3] = 48 + b % 8;
-    at + 4
-}
 
-fn put_chars(text: &mut [u8], at: usize, bytes: &[u8]) -> usize
-    requires { at + length (chars_text bytes.now) ≤ length text.old }
-    ensures { (text.new ≡ sets text.old at (chars_text bytes.now)) × (result ≡ at + length (chars_text bytes.now)) }
-{
-    let mut end = at;
-    let mut i = 0;
-    while i < bytes.len() {
-        end = put_char_text(text, end, bytes[i]);
-        i += 1;
+    fn put_chars(&mut self, bytes: &[u8])
+        requires { HasRoom self.old (chars_text bytes.now) }
+        ensures { Wrote self.old self.new (chars_text bytes.now) }
+    {
+        for b in bytes {
+            self.put_char_text(*b);
+        }
     }
-    end
-}
 
-pub fn put_string(text: &mut [u8], at: usize, bytes: &[u8]) -> usize
-    requires { at + length (string_text bytes.now) ≤ length text.old }
-    ensures { (text.new ≡ sets text.old at (string_text bytes.now)) × (result ≡ at + length (string_text bytes.now)) }
-{
-    text[at] = 34;
-    let end = put_chars(text, at + 1, bytes);
-    text[end] = 34;
-    end + 1
-}
-
-// The space between two elements, or two bytes of a blob; none stands before the first and behind the last.
-pub fn put_gap(text: &mut [u8], at: usize, none: bool) -> usize
-    requires { at + length (gap none) ≤ length text.old }
-    ensures { (text.new ≡ sets text.old at (gap none)) × (result ≡ at + length (gap none)) }
-{
-    if none {
-        return at;
+    pub fn put_string(&mut self, bytes: &[u8])
+        requires { HasRoom self.old (string_text bytes.now) }
+        ensures { Wrote self.old self.new (string_text bytes.now) }
+    {
+        self.put(b'"');
+        self.put_chars(bytes);
+        self.put(b'"');
     }
-    text[at] = 32;
-    at + 1
-}
 
-// A byte in decimal; answers the end of it.
-fn put_byte(text: &mut [u8], at: usize, b: u8) -> usize
-    requires { at + length (decimal b) ≤ length text.old }
-    ensures { (text.new ≡ sets text.old at (decimal b)) × (result ≡ at + length (decimal b)) }
-{
-    if b < 10 {
-        text[at] = 48 + b;
-        return at + 1;
+    // A byte in decimal.
+    fn put_byte(&mut self, b: u8)
+        requires { HasRoom self.old (decimal b) }
+        ensures { Wrote self.old self.new (decimal b) }
+    {
+        if b < 10 {
+            self.put(b'0' + b);
+        } else if b < 100 {
+            self.put(b'0' + b / 10);
+            self.put(b'0' + b % 10);
+        } else {
+            self.put(b'0' + b / 100);
+            self.put(b'0' + b / 10 % 10);
+            self.put(b'0' + b % 10);
+        }
     }
-    if b < 100 {
-        text[at] = 48 + b / 10;
-        text[at + 1] = 48 + b % 10;
-        return at + 2;
+
+    fn put_bytes(&mut self, bytes: &[u8])
+        requires { HasRoom self.old (bytes_text true bytes.now) }
+        ensures { Wrote self.old self.new (bytes_text true bytes.now) }
+    {
+        // A flag, as the definition `bytes_text` has it; by `enumerate` an index would be counted for the first turn alone.
+        let mut first = true;
+        for b in bytes {
+            self.put_gap(first);
+            self.put_byte(*b);
+            first = false;
+        }
     }
-    text[at] = 48 + b / 100;
-    text[at + 1] = 48 + b / 10 % 10;
-    text[at + 2] = 48 + b % 10;
-    at + 3
-}
 
-fn put_bytes(text: &mut [u8], at: usize, bytes: &[u8]) -> usize
-    requires { at + length (bytes_text true bytes.now) ≤ length text.old }
-    ensures { (text.new ≡ sets text.old at (bytes_text true bytes.now)) × (result ≡ at + length (bytes_text true bytes.now)) }
-{
-    let mut end = at;
-    let mut i = 0;
-    while i < bytes.len() {
-        end = put_gap(text, end, i == 0);
-        end = put_byte(text, end, bytes[i]);
-        i += 1;
+    pub fn put_blob(&mut self, bytes: &[u8])
+        requires { HasRoom self.old (blob_text bytes.now) }
+        ensures { Wrote self.old self.new (blob_text bytes.now) }
+    {
+        self.put(b'{');
+        self.put_bytes(bytes);
+        self.put(b'}');
     }
-    end
-}
 
-pub fn put_blob(text: &mut [u8], at: usize, bytes: &[u8]) -> usize
-    requires { at + length (blob_text bytes.now) ≤ length text.old }
-    ensures { (text.new ≡ sets text.old at (blob_text bytes.now)) × (result ≡ at + length (blob_text bytes.now)) }
-{
-    text[at] = 123;
-    let end = put_bytes(text, at + 1, bytes);
-    text[end] = 125;
-    end + 1
-}
-
-// The bytes below the first zero.
-fn put_letters(text: &mut [u8], at: usize, bits: u32) -> usize
-    requires { at + length (letters bits) ≤ length text.old }
-    ensures { (text.new ≡ sets text.old at (letters bits)) × (result ≡ at + length (letters bits)) }
-{
-    let mut left = bits;
-    let mut end = at;
-    while left % 256 != 0 {
-        text[end] = (left % 256) as u8;
-        end += 1;
-        left = left / 256;
+    // The bytes below the first zero.
+    fn put_letters(&mut self, bits: u32)
+        requires { HasRoom self.old (letters bits) }
+        ensures { Wrote self.old self.new (letters bits) }
+    {
+        let mut left = bits;
+        // No `for`: the first zero byte ends the letters, and no index is counted.
+        while left % 256 != 0 {
+            self.put((left % 256) as u8);
+            left = left / 256;
+        }
     }
-    end
-}
 
-pub fn put_vocab(text: &mut [u8], at: usize, bits: u32) -> usize
-    requires { at + length (vocab_text bits) ≤ length text.old }
-    ensures { (text.new ≡ sets text.old at (vocab_text bits)) × (result ≡ at + length (vocab_text bits)) }
-{
-    text[at] = 91;
-    let end = put_letters(text, at + 1, bits);
-    text[end] = 93;
-    end + 1
+    pub fn put_vocab(&mut self, bits: u32)
+        requires { HasRoom self.old (vocab_text bits) }
+        ensures { Wrote self.old self.new (vocab_text bits) }
+    {
+        self.put(b'[');
+        self.put_letters(bits);
+        self.put(b']');
+    }
 }

@@ -13,10 +13,16 @@ use borrow.Author.Tests.{eqb-true}
 use Rattle.digits.specs.Read.{Read, got, wrong, and_read}
 use Rattle.digits.specs.Decimal.{decimal_at}
 use Rattle.text.specs.Read.{spaced_byte, byte_at}
-use Rattle.text_value.specs.Answers.{gap_size, moved_by, Within, AtMost}
+use Rattle.std.specs.Prelude as std
+use Rattle.std.specs.Prelude.{Some, None}
+use Rattle.text_value.specs.Answers.{gap_size, Within, AtMost}
 use Rattle.text_value.proofs.Decimals.{first_char, inside}
 
 -- GAPS
+-- what was read, with `gap` characters before it
+abbrev pub moved_by : {A : Type 0} → ℕ → Read A → Read A
+moved_by gap r = and_read r (λ a count. got a (count + gap))
+
 -- no character more
 pub moved_none : {A : Type 0} (r : Read A) → moved_by 0 r ≡ r
 moved_none (got a count) = rw add-zero
@@ -32,13 +38,13 @@ moved-bounds gap at end most (got b count) w m = ((omega arith, omega arith), m)
 moved-bounds gap at end most wrong w m = (tt, tt)
 
 -- a gap is at most a space, and that stands in the text
-pub gap-inside : (first : Bool) (s : List ℕ) (at gap : ℕ) → gap ≡ gap_size first (get_or s at 0) → (gap ≡ 2 → ⊥) → (gap ≤ 1) × (gap ≤ length s - at)
-gap-inside true s at gap e h = (omega arith, omega arith)
-gap-inside false s at gap e h = go (eqb (get_or s at 0) 32) refl e
+pub gap-inside : (first : Bool) (s : List ℕ) (at gap : ℕ) → gap_size first (get_or s at 0) ≡ Some gap → (gap ≤ 1) × (gap ≤ length s - at)
+gap-inside true s at gap e = let z : 0 ≡ gap = cc in (omega arith, omega arith)
+gap-inside false s at gap e = go (eqb (get_or s at 0) 32) refl e
   where
-    go : (b : Bool) → eqb (get_or s at 0) 32 ≡ b → gap ≡ cond b 1 2 → (gap ≤ 1) × (gap ≤ length s - at)
-    go true q k = (omega arith, omega (arith, inside s at 31 (eqb-true (get_or s at 0) 32 q)))
-    go false q k = absurd (h k)
+    go : (b : Bool) → eqb (get_or s at 0) 32 ≡ b → cond b (Some 1) None ≡ Some gap → (gap ≤ 1) × (gap ≤ length s - at)
+    go true q k = let z : 1 ≡ gap = cc in (omega arith, omega (arith, inside s at 31 (eqb-true (get_or s at 0) 32 q)))
+    go false q k = absurd (cc)
 
 -- A BLOB'S BYTE BEHIND ITS GAP
 module _ (s : List ℕ) (at gap : ℕ) where
@@ -49,23 +55,25 @@ module _ (s : List ℕ) (at gap : ℕ) where
   unfolding byte_at
   byte-is first = rw first_char
 
-  gapped : (first space : Bool) → gap ≡ cond first 0 (cond space 1 2) → (gap ≡ 2 → ⊥) → moved_by gap (decimal_at 255 (drop (at + gap) s)) ≡ byte-by first space
-  gapped true space e h = rw (e, add-zero at) (moved_none (decimal_at 255 (drop at s)))
-  gapped false true e h = rw (e, drop-drop) (moved-one (decimal_at 255 (drop (at + 1) s)))
-  gapped false false e h = absurd (h e)
+  gapped : (first space : Bool) → cond first (Some 0) (cond space (Some 1) None) ≡ Some gap → moved_by gap (decimal_at 255 (drop (at + gap) s)) ≡ byte-by first space
+  gapped true space e = let z : gap ≡ 0 = cc in rw (z, add-zero at) (moved_none (decimal_at 255 (drop at s)))
+  gapped false true e = let z : gap ≡ 1 = cc in rw (z, drop-drop) (moved-one (decimal_at 255 (drop (at + 1) s)))
+  gapped false false e = absurd (cc)
 
   -- r is what stands behind the gap
-  pub byte-gap : (first : Bool) (r x : Read ℕ) → gap ≡ gap_size first (get_or s at 0) → (gap ≡ 2 → ⊥) → x ≡ moved_by gap r
+  pub byte-gap : (first : Bool) (r x : Read ℕ) → gap_size first (get_or s at 0) ≡ Some gap → x ≡ moved_by gap r
       → (r ≡ decimal_at 255 (drop (at + gap) s)) × Within (at + gap) (length s) r × AtMost 255 r
       → (x ≡ byte_at first (drop at s)) × Within at (length s) x × AtMost 255 x
-  byte-gap first r x e h k g =
+  byte-gap first r x e k g =
       let w = moved-bounds gap at (length s) 255 r g.1 g.2 in
-      (k ∙ ap (moved_by gap) g.0 ∙ gapped first (eqb (get_or s at 0) 32) e h ∙ sym (byte-is first), rw k w.0, rw k w.1)
+      (k ∙ ap (moved_by gap) g.0 ∙ gapped first (eqb (get_or s at 0) 32) e ∙ sym (byte-is first), rw k w.0, rw k w.1)
 
-  missing : (first space : Bool) → gap ≡ cond first 0 (cond space 1 2) → gap ≡ 2 → wrong ≡ byte-by first space
-  missing true space e h = absurd (omega (arith, e, h))
-  missing false true e h = absurd (omega (arith, e, h))
-  missing false false e h = refl
-
-  pub byte-none : (first : Bool) → gap ≡ gap_size first (get_or s at 0) → gap ≡ 2 → wrong ≡ byte_at first (drop at s)
-  byte-none first e h = missing first (eqb (get_or s at 0) 32) e h ∙ sym (byte-is first)
+-- the gap is missing
+pub byte-none : (s : List ℕ) (at : ℕ) (first : Bool) → gap_size first (get_or s at 0) ≡ None → wrong ≡ byte_at first (drop at s)
+unfolding byte_at
+byte-none s at true e = absurd (cc)
+byte-none s at false e = rw first_char (go (eqb (get_or s at 0) 32) e)
+  where
+    go : (b : Bool) → cond {A = std.Option ℕ} b (Some 1) None ≡ None → wrong ≡ cond b (and_read (decimal_at 255 (drop 1 (drop at s))) spaced_byte) wrong
+    go true k = absurd (cc)
+    go false k = refl

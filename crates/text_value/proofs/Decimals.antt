@@ -6,8 +6,9 @@ use mathlib.Core.List.{List, ◌∷◌}
 use native.Mathlib.Omega.{arith}
 use native.Mathlib.Nat.{add-zero}
 use lib.Dec.{eqb, leb}
-use lib.ListN.{length, get_or, drop, drop_of_length-le, get_or-eq_default}
+use lib.ListN.{length, get_or, take, drop, drop_of_length-le, get_or-eq_default}
 use lib.Seq.{drop-cons, get_or-drop}
+use Rattle.std.proofs.lemmas.List.{get_or-take}
 use borrow.Author.Tests.{le-leb, lt-leb, leb-true, leb-false, eq-eqb, ne_eqb}
 use Rattle.digits.specs.Read.{Read, got, wrong}
 use Rattle.digits.specs.Decimal.{is_decimal, more_decimal, decimal_at}
@@ -24,6 +25,13 @@ drop-next s i h = let e : suc i ≡ i + 1 = omega arith in rw e at (drop-cons s 
 pub first_char : (s : List ℕ) (i : ℕ) → get_or (drop i s) 0 0 ≡ get_or s i 0
 first_char s i = rw (get_or-drop, add-zero)
 
+-- a part of the elements, from an offset on
+pub in_part : (s : List ℕ) (at n i : ℕ) → i < n → get_or (take n (drop at s)) i 0 ≡ get_or s (at + i) 0
+in_part s at n i h = get_or-take n (drop at s) i 0 h ∙ get_or-drop at s i 0
+
+pub in_items : (s items : List ℕ) (at i : ℕ) → items ≡ take (length s - at) (drop at s) → at + i < length s → get_or items i 0 ≡ get_or s (at + i) 0
+in_items s items at i e h = rw e (in_part s at (length s - at) i (omega arith))
+
 -- past the end stands 0
 pub inside-some : (s : List ℕ) (i : ℕ) → 0 < get_or s i 0 → i < length s
 inside-some s i h = go (leb (length s) i) refl
@@ -35,19 +43,12 @@ inside-some s i h = go (leb (length s) i) refl
 pub inside : (s : List ℕ) (i k : ℕ) → get_or s i 0 ≡ suc k → i < length s
 inside s i k e = inside-some s i (omega (arith, e))
 
-pub past-other : (s : List ℕ) (i k : ℕ) → length s ≤ i → false ≡ eqb (get_or s i 0) (suc k)
-past-other s i k h = sym (ne_eqb (get_or s i 0) (suc k) (λ e. omega (arith, e, get_or-eq_default s 0 h)))
-
 -- a digit stands inside the text, and past the end stands none
 abbrev pub DigitAt : List ℕ → ℕ → Type 0
 DigitAt s i = (i < length s) × (48 ≤ get_or s i 0) × (get_or s i 0 ≤ 57)
 
 pub digit-in : (s : List ℕ) (i : ℕ) → is_decimal (get_or s i 0) ≡ true → DigitAt s i
 digit-in s i h = let x = digit-bounds (get_or s i 0) h in (inside-some s i (omega (arith, x)), x.0, x.1)
-
-pub past-digit : (s : List ℕ) (i : ℕ) → length s ≤ i → false ≡ is_decimal (get_or s i 0)
-unfolding is_decimal
-past-digit s i h = rw (get_or-eq_default s 0 h)
 
 -- ONE TURN: before it, L is what the digits from offset i on make behind `value`
 more-one : (limit value count c : ℕ) (s : List ℕ)

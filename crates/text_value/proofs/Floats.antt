@@ -1,17 +1,16 @@
 -- Laws of signs, scales and a float's parts.
-use Prim.Native.Nat.{ℕ, zero, suc, ◌+◌, ◌-◌, ◌≤◌, ◌<◌}
+use Prim.Native.Nat.{ℕ, ◌+◌, ◌-◌, ◌≤◌, ◌<◌}
 use mathlib.Core.Path.{◌≡◌, refl, sym, ◌∙◌}
 use mathlib.Core.Bool.{Bool, true, false, ◌&&◌}
 use mathlib.Core.List.{List}
 use mathlib.Core.Option.{Option, some}
 use mathlib.Core.Option as option
 use native.Mathlib.Omega.{arith}
-use native.Mathlib.Numerals.{add-one}
 use lib.Dec.{eqb}
 use lib.ListN.{length, get_or, drop, length-drop, drop_of_length-le}
 use lib.Seq.{drop-drop, get_or-drop}
 use borrow.Author.Tests.{eq-eqb, ne_eqb}
-use Rattle.digits.specs.Read.{Read, got, wrong, and_read, and_digits}
+use Rattle.digits.specs.Read.{Read, wrong, and_read, and_digits}
 use Rattle.digits.specs.Decimal.{decimal_at}
 use Rattle.digits.specs.Fixed.{fixed_at}
 use Rattle.text.specs.Read.{
@@ -20,9 +19,6 @@ use Rattle.text.specs.Read.{
   minus_scale,
   plus_scale,
   scale_at,
-  exponent_from,
-  high_of,
-  halves_of,
   float_from,
   is_float_frame,
   float_at,
@@ -31,21 +27,10 @@ use Rattle.text.specs.Read.{
   int_value,
   float_value,
 }
-use Rattle.text_value.specs.declared.WordRead.{WordRead}
-use Rattle.text_value.specs.declared.WordRead.TheVariants as word
-use Rattle.text_value.specs.Answers.{word_of}
 use Rattle.text_value.proofs.Decimals.{first_char}
 use Rattle.text_value.proofs.Bounds.{frame-long}
 
--- BEHIND A MINUS
-pub minus-bits-is : (n count : ℕ) → (n ≡ 0 → ⊥) → got (4294967296 - n) (count + 1) ≡ minus_bits n count
-minus-bits-is zero count h = absurd (h refl)
-minus-bits-is (suc n) count h = rw add-one
-
-pub minus-scale-is : (n count : ℕ) → (n ≡ 0 → ⊥) → got (1023 - n) (count + 1) ≡ minus_scale n count
-minus-scale-is zero count h = absurd (h refl)
-minus-scale-is (suc n) count h = rw add-one
-
+-- BEHIND A SIGN
 module _ (s : List ℕ) (at : ℕ) where
   pub int-minus : get_or s at 0 ≡ 45 → and_read (decimal_at 2147483648 (drop (at + 1) s)) minus_bits ≡ int_at (drop at s)
   unfolding int_at
@@ -67,12 +52,7 @@ module _ (s : List ℕ) (at : ℕ) where
   unfolding scale_at
   scale-none n e = sym (rw (first_char, ne_eqb (get_or s at 0) 43 n, ne_eqb (get_or s at 0) 45 e))
 
--- A FLOAT OF ITS PARTS
-pub float_is : (sign lead fraction low : ℕ) (r : WordRead) (bits count : ℕ) (o : Option ℕ) → r ≡ word.Is bits count → o ≡ exponent_from lead fraction low bits
-    → halves_of low (sign + 18 + count) (high_of sign fraction o) ≡ and_read (word_of r) (float_from sign lead fraction low)
-float_is sign lead fraction low r bits count o e f = rw (e, f)
-
--- a float's frame and its parts, at an offset
+-- A FLOAT'S FRAME AND ITS PARTS, at an offset
 module _ (sign : ℕ) (s : List ℕ) (at : ℕ) where
   frame : is_float_frame (drop at s) ≡ (eqb (get_or s at 0) 48 && (eqb (get_or s (at + 3) 0) 46 && eqb (get_or s (at + 17) 0) 112))
   unfolding is_float_frame

@@ -2,7 +2,10 @@
 #![tactic(auto)]
 
 ghost use Rattle.std.specs.Prelude.{◌≡◌};
+ghost use Rattle.catalogue.specs.Format.{kind_float, kind_number};
 ghost use Rattle.value.specs.Meaning.{int_of, int_bits, extended, float_bits, flag_bits, meaning_of, meant, widened};
+
+use catalogue::Kind;
 
 // The lowest pattern without the sign that is an infinity or a NaN.
 const INFINITY: u32 = 0x7f80_0000;
@@ -20,71 +23,77 @@ pub enum Value {
 pub fn int_of(bits: u32) -> i32
     ensures { result ≡ int_of bits }
 {
-    if bits < 0x8000_0000 {
-        return bits as i32;
-    }
-    let m = 0xffff_ffff - bits;
-    !(m as i32)
+    bits.cast_signed()
 }
 
 // The 32 bits of a signed number.
-#[tactic(auto, using(crate::proofs::Bits::bits_up, crate::proofs::Bits::bits_down))]
 pub fn int_bits(number: i32) -> u32
     ensures { result ≡ int_bits number }
 {
-    if 0 <= number {
-        return number as u32;
-    }
-    let m = !number;
-    0xffff_ffff - (m as u32)
+    number.cast_unsigned()
 }
 
 // The 32 bits of the signed number of 16 bits: its sign goes on into the upper half.
 pub fn extend(bits: u16) -> u32
     ensures { result ≡ extended bits }
 {
-    if bits < 0x8000 {
-        return bits as u32;
-    }
-    0xffff_0000 + (bits as u32)
+    i32::from(bits.cast_signed()).cast_unsigned()
 }
 
 // The 32 bits of a float. A NaN does not keep them, and comes as its bits instead.
 pub fn float_bits(number: f32) -> u32
     ensures { result ≡ float_bits number }
 {
-    if number == number {
-        return f32::to_bits(number);
+    if number.is_nan() {
+        return 0;
     }
-    0
+    number.to_bits()
 }
 
 pub fn flag_bits(set: bool) -> u32
     ensures { result ≡ flag_bits set }
 {
-    if set {
-        return 1;
+    u32::from(set)
+}
+
+// The value of a single float's bits.
+fn float_of(bits: u32) -> Value
+    ensures { meaning_of result ≡ meant kind_float bits }
+{
+    if bits % 0x8000_0000 <= INFINITY {
+        return Value::Float(f32::from_bits(bits));
     }
-    0
+    Value::Nan(bits)
 }
 
 // The value that 32 bits hold for a parameter of this kind.
+pub fn of_kind(kind: Kind, bits: u32) -> Value
+    ensures { meaning_of result ≡ meant (kind_number kind) bits }
+{
+    match kind {
+        Kind::Int => Value::Int(int_of(bits)),
+        Kind::Float => float_of(bits),
+        Kind::Bool | Kind::Unknown => Value::Bool(bits == 1),
+    }
+}
+
+// The numbers of the kinds INT and FLOAT.
+const INT: u8 = 0;
+
+const FLOAT: u8 = 1;
+
+// The same by the number of a kind, which any byte may be: one that is neither INT's nor FLOAT's is taken as BOOL's.
 pub fn value_of(kind: u8, bits: u32) -> Value
     ensures { meaning_of result ≡ meant kind bits }
 {
-    if kind == catalogue::INT {
-        return Value::Int(int_of(bits));
+    match kind {
+        INT => of_kind(Kind::Int, bits),
+        FLOAT => of_kind(Kind::Float, bits),
+        _ => of_kind(Kind::Bool, bits),
     }
-    if kind == catalogue::FLOAT {
-        if bits % 0x8000_0000 <= INFINITY {
-            return Value::Float(f32::from_bits(bits));
-        }
-        return Value::Nan(bits);
-    }
-    Value::Bool(bits == 1)
 }
 
-// The bits of the double that a single's bits become.
+// The bits of the double that a single's bits become. Infinities and NaNs are made by hand, since a cast keeps no NaN's bits.
 pub fn widen(bits: u32) -> u64
     ensures { result ≡ widened bits }
 {

@@ -3,8 +3,8 @@ use Prim.Native.Nat.{ℕ, suc, ◌+◌, ◌-◌, ◌≤◌, ◌<◌}
 use mathlib.Core.Path.{◌≡◌, ap, sym, ◌∙◌}
 use mathlib.Core.List.{List, [], ◌∷◌, ◌++◌, append_assoc}
 use native.Mathlib.Omega.{arith}
-use lib.ListN.{length, take, drop, set}
-use lib.Seq.{take_all, sets, sets-eq}
+use lib.ListN.{length, take, drop, set, length-append, length-drop}
+use lib.Seq.{take_all, take_at, take-add, take-append_seam, drop_at, drop-drop, length-take-le, sets, sets-eq}
 use borrow.Rule.Slice.PartMut.{put_mid, post_of, Post-is}
 use borrow.Author.Tests.{eq-eqb, le-leb, lt-leb}
 use Rattle.wire.specs.Area.{block_size, over, put_at, replaced}
@@ -61,3 +61,18 @@ replaced-all area xs e h = rw (eq-eqb (length area) (length xs) e, le-leb (lengt
 
 pub replaced-none : {A : Type 0} (area xs : List A) → length area ≡ length xs → block_size < length xs → replaced area xs ≡ area
 replaced-none area xs e h = rw (eq-eqb (length area) (length xs) e, lt-leb (length xs) block_size h)
+
+-- one more piece comes off the front of the rest
+pub cut-rest : {A : Type 0} (s rest x next : List A) (i n : ℕ) → rest ≡ drop i s → rest ≡ x ++ next → length x ≡ n → next ≡ drop (i + n) s
+cut-rest s rest x next i n r e l = sym (drop_at x next n l) ∙ ap (drop n) (sym e ∙ r) ∙ drop-drop n i s
+
+pub cut-within : {A : Type 0} (s rest x next : List A) (i n : ℕ) → i ≤ length s → rest ≡ drop i s → rest ≡ x ++ next → length x ≡ n → i + n ≤ length s
+cut-within s rest x next i n h r e l = omega (arith, length-drop i s, ap length (sym r ∙ e), length-append x next, l)
+
+-- a piece of the source is put where it stands there
+pub cut-copied :
+    {A : Type 0} (dst src rest x next y : List A) (at : ℕ) → rest ≡ drop at src → rest ≡ x ++ next → at + length x ≤ length src
+    → take at dst ≡ take at src → y ≡ x → take (at + length x) (put_mid at (at + length x - at) dst y) ≡ take (at + length x) src
+cut-copied dst src rest x next y at r e h t q =
+    let k : take (length x) (drop at src) ≡ x = ap (take (length x)) (sym r ∙ e) ∙ take-append_seam x next in
+    rw (q, t, ← append_assoc) (take_at (take at src ++ x) _ _ (simp length-append (omega (arith, length-take-le at src (omega arith)))) ∙ rw (take-add at (length x) src, k))

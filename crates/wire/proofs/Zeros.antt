@@ -1,14 +1,17 @@
 -- Laws of the search for a zero.
 use Prim.Native.Nat.{ℕ, zero, suc, ◌+◌, ◌-◌, ◌≤◌, ◌<◌}
 use mathlib.Core.Path.{◌≡◌, refl, sym, ap, ◌∙◌}
-use mathlib.Core.Bool.{Bool, true, false, not, ◌||◌}
+use mathlib.Core.Bool.{Bool, true, false, not, ◌||◌, cond}
 use mathlib.Core.List.{List, [], ◌∷◌, ◌++◌, append-nil}
 use native.Mathlib.Numerals.{add-one}
 use native.Mathlib.Omega.{arith}
 use lib.Dec.{eqb}
-use lib.ListN.{length, take, drop, get_or, replicate}
-use lib.Seq.{take-suc, take-add, drop-length}
-use borrow.Author.Tests.{ne_eqb}
+use lib.ListN.{length, take, drop, get_or, replicate, length-drop}
+use lib.Seq.{take-suc, take-add, take_at, take_all, drop-length}
+use borrow.Author.Tests.{ne_eqb, ltb-false}
+use Rattle.std.specs.Prelude.{Some, None, position}
+use Rattle.std.specs.List.{position_or_len}
+use Rattle.std.proofs.lemmas.List.Recursion.{is_position_or_len}
 use Rattle.wire.specs.Zero.{has_zero, zero_at, all_zero}
 
 pub zero-append : (xs ys : List ℕ) → has_zero (xs ++ ys) ≡ (has_zero xs || has_zero ys)
@@ -29,13 +32,6 @@ zero_more s i h = rw (add-one i, take-suc s i 0 h, zero-append (take i s) (get_o
 -- the same where the byte is no zero
 pub zero-passed : (s : List ℕ) (i : ℕ) → i < length s → has_zero (take i s) ≡ false → (get_or s i 0 ≡ 0 → ⊥) → has_zero (take (i + 1) s) ≡ false
 zero-passed s i h p n = sym (zero_more s i h) ∙ rw (p, ne_eqb _ _ n)
-
--- the same for several bytes at once
-pub zero-stride : (s : List ℕ) (i n : ℕ) → has_zero (take i s) ≡ false → has_zero (take (i + n - i) (drop i s)) ≡ false → has_zero (take (i + n) s) ≡ false
-zero-stride s i n p q =
-    let e : i + n - i ≡ n = omega arith in
-    let r : has_zero (take n (drop i s)) ≡ false = ap (λ (k : ℕ). has_zero (take k (drop i s))) (sym e) ∙ q in
-    ap has_zero (take-add i n s) ∙ zero-append (take i s) (take n (drop i s)) ∙ rw (p, r)
 
 -- the first zero is the one before which there is none
 pub zero-first : (s : List ℕ) (i : ℕ) → i < length s → has_zero (take i s) ≡ false → get_or s i 0 ≡ 0 → zero_at s ≡ i
@@ -76,6 +72,57 @@ unfolding zero_at
 zero-there [] h = absurd (omega arith)
 zero-there (zero ∷ s) h = refl
 zero-there (suc b ∷ s) h = zero-there s (omega arith)
+
+-- a search by its first index finds the first zero
+zero-index : (s : List ℕ) → zero_at s ≡ position_or_len (λ b. eqb b 0) s
+unfolding zero_at
+zero-index = is_position_or_len zero_at (λ b. eqb b 0) refl step
+  where
+    step : (x : ℕ) (xs : List ℕ) → zero_at (x ∷ xs) ≡ cond (eqb x 0) 0 (1 + zero_at xs)
+    step zero xs = refl
+    step (suc b) xs = rw (ne_eqb (suc b) 0 (λ e. omega arith)) (omega arith)
+
+chosen : (t : Bool) (k n : ℕ) → cond t (Some k) None ≡ Some n → k ≡ n
+chosen true k n e = cc
+chosen false k n e = cc
+
+none_chosen : (t : Bool) (k : ℕ) → cond t (Some k) None ≡ None → t ≡ false
+none_chosen true k e = cc
+none_chosen false k e = refl
+
+zero-behind : (s : List ℕ) (i : ℕ) → i ≤ length s → has_zero (take i s) ≡ false → zero_at s ≡ i + zero_at (drop i s)
+unfolding has_zero zero_at
+zero-behind s zero h p = omega arith
+zero-behind [] (suc i) h p = absurd (omega arith)
+zero-behind (zero ∷ s) (suc i) h p = absurd (let e : ◌≡◌ {A = ℕ} 0 1 = cc in omega arith)
+zero-behind (suc b ∷ s) (suc i) h p = let e = zero-behind s i (omega arith) p in omega (arith, e)
+
+rest_all : (i : ℕ) (s : List ℕ) → take (length s - i) (drop i s) ≡ drop i s
+rest_all i s = take_all (length s - i) (drop i s) (simp length-drop (omega arith))
+
+pub zero-searched :
+    (s : List ℕ) (i n : ℕ) → i ≤ length s → has_zero (take i s) ≡ false
+    → Some n ≡ position (λ b. eqb b 0) (take (length s - i) (drop i s)) → i + n ≡ zero_at s
+zero-searched s i n h p e =
+    let f : position_or_len (λ b. eqb b 0) (drop i s) ≡ n = chosen _ _ n (sym (ap (position (λ b. eqb b 0)) (rest_all i s)) ∙ sym e) in
+    omega (arith, zero-behind s i h p, zero-index (drop i s), f)
+
+pub zero-unfound :
+    (s : List ℕ) (i : ℕ) → i ≤ length s → has_zero (take i s) ≡ false
+    → None ≡ position (λ b. eqb b 0) (take (length s - i) (drop i s)) → length s ≡ zero_at s
+zero-unfound s i h p e =
+    let f = none_chosen _ _ (sym (ap (position (λ b. eqb b 0)) (rest_all i s)) ∙ sym e) in
+    let g = ltb-false _ _ f in
+    let k = zero-within (drop i s) in
+    omega (arith, zero-behind s i h p, zero-index (drop i s), g, k, length-drop i s)
+
+-- one more stride is passed
+pub stride-none :
+    (s rest x next : List ℕ) (i n : ℕ) → has_zero (take i s) ≡ false → rest ≡ drop i s → rest ≡ x ++ next → length x ≡ n → has_zero x ≡ false
+    → has_zero (take (i + n) s) ≡ false
+stride-none s rest x next i n p r e l z =
+    let t : take n (drop i s) ≡ x = ap (take n) (sym r ∙ e) ∙ take_at x next n l in
+    rw (take-add i n s, zero-append (take i s) (take n (drop i s)), t, p, z)
 
 -- zeros alone
 all_append : (xs : List ℕ) (b : ℕ) → not (all_zero (xs ++ b ∷ [])) ≡ (not (all_zero xs) || not (eqb b 0))

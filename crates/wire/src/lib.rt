@@ -1,7 +1,7 @@
 // One byte, bytes that are copied, and the search for a zero. Every public function answers for every input.
 #![tactic(auto)]
 
-ghost use Rattle.std.specs.Prelude.{◌≡◌, ◌*◌, ◌≤◌, ◌<◌, false, length, get_or, take, replicate};
+ghost use Rattle.std.specs.Prelude.{◌≡◌, ◌*◌, ◌≤◌, ◌<◌, false, length, get_or, take, replicate, position, nat_eq};
 ghost use Rattle.wire.specs.Area.{block_size, put_at, replaced};
 ghost use Rattle.wire.specs.Zero.{has_zero, zero_at, all_zero};
 
@@ -9,10 +9,7 @@ ghost use Rattle.wire.specs.Zero.{has_zero, zero_at, all_zero};
 pub fn byte_at(s: &[u8], at: usize) -> u8
     ensures { result ≡ get_or s.now at 0 }
 {
-    if at < s.len() {
-        return s[at];
-    }
-    0
+    s.get(at).copied().unwrap_or(0)
 }
 
 // Is one of the bytes 00. Every byte is looked at, so that the loop has one exit and can run on many bytes at once.
@@ -20,10 +17,8 @@ pub fn has_zero(s: &[u8]) -> bool
     ensures { result ≡ has_zero s.now }
 {
     let mut found = false;
-    let mut i = 0;
-    while i < s.len() {
-        found = found | (s[i] == 0);
-        i += 1;
+    for b in s {
+        found = found | (*b == 0);
     }
     found
 }
@@ -33,10 +28,8 @@ pub fn is_zero(s: &[u8]) -> bool
     ensures { result ≡ all_zero s.now }
 {
     let mut other = false;
-    let mut i = 0;
-    while i < s.len() {
-        other = other | (s[i] != 0);
-        i += 1;
+    for b in s {
+        other = other | (*b != 0);
     }
     !other
 }
@@ -48,36 +41,32 @@ const STRIDE: usize = 32;
 pub fn zero_at(s: &[u8]) -> usize
     ensures { result ≡ zero_at s.now }
 {
-    let mut i: usize = 0;
-    while STRIDE <= s.len() - i && !has_zero(&s[i..i + STRIDE]) {
-        i += STRIDE;
-    }
-    zero_from(s, i)
-}
-
-// The same from an offset before which there is none.
-fn zero_from(s: &[u8], from: usize) -> usize
-    requires { (from ≤ length s.now) × (has_zero (take from s.now) ≡ false) }
-    ensures { result ≡ zero_at s.now }
-{
-    let mut i = from;
-    while i < s.len() {
-        if s[i] == 0 {
-            return i;
+    let mut passed: usize = 0;
+    for stride in s.chunks_exact(STRIDE) {
+        if has_zero(stride) {
+            break;
         }
-        i += 1;
+        passed += STRIDE;
     }
-    i
+    match first_zero(&s[passed..]) {
+        Some(n) => passed + n,
+        None => s.len(),
+    }
 }
 
-// Zeros over all of a buffer.
+// The first 00, byte by byte.
+fn first_zero(s: &[u8]) -> Option<usize>
+    ensures { result ≡ position (λ b. nat_eq b 0) s.now }
+{
+    s.iter().position(|b| *b == 0)
+}
+
+// Zeros over all of a buffer. The loop becomes one move of memory; `fill` writes the last byte by itself.
 pub fn clear(area: &mut [u8])
     ensures { area.new ≡ replicate (length area.old) 0 }
 {
-    let mut i = 0;
-    while i < area.len() {
-        area[i] = 0;
-        i += 1;
+    for b in area.iter_mut() {
+        *b = 0;
     }
 }
 
@@ -130,7 +119,7 @@ fn copy_few(dst: &mut [u8], src: &[u8])
         copy_ends(dst, src, 2);
         return;
     }
-    copy_bytes(dst, src);
+    copy_block(dst, src);
 }
 
 // The first n bytes and the last n, which are all of them.
@@ -158,28 +147,16 @@ fn copy(dst: &mut [u8], src: &[u8])
     copy_block(dst, src);
 }
 
-// The same in blocks, for a source that is longer than one.
+// The same in blocks, for a source that is longer than one. The place is counted, since of `chunks_mut` a proof learns no element.
 fn copy_long(dst: &mut [u8], src: &[u8])
     requires { length dst.old ≡ length src.now }
     ensures { dst.new ≡ src.now }
 {
     let mut at: usize = 0;
-    while at < src.len() {
-        let n = block_size(src.len() - at);
-        copy_block(&mut dst[at..at + n], &src[at..at + n]);
-        at += n;
+    for block in src.chunks(BLOCK) {
+        copy_block(&mut dst[at..at + block.len()], block);
+        at += block.len();
     }
-}
-
-// How many bytes the next block has, where some are left.
-fn block_size(left: usize) -> usize
-    requires { 0 < left }
-    ensures { (0 < result) × (result ≤ left) × (result ≤ block_size) }
-{
-    if BLOCK < left {
-        return BLOCK;
-    }
-    left
 }
 
 // The same for a source of at most one block, by way of an array: nothing overlaps an array of the function's own, so that
@@ -189,17 +166,6 @@ fn copy_block(dst: &mut [u8], src: &[u8])
     ensures { dst.new ≡ src.now }
 {
     let mut block = [0u8; BLOCK];
-    copy_bytes(&mut block[0..src.len()], src);
-    copy_bytes(dst, &block[0..src.len()]);
-}
-
-fn copy_bytes(dst: &mut [u8], src: &[u8])
-    requires { length dst.old ≡ length src.now }
-    ensures { dst.new ≡ src.now }
-{
-    let mut i = 0;
-    while i < src.len() {
-        dst[i] = src[i];
-        i += 1;
-    }
+    block[..src.len()].copy_from_slice(src);
+    dst.copy_from_slice(&block[..src.len()]);
 }

@@ -19,21 +19,27 @@ pub fn fault(tree: &Tree, described: &BTreeMap<&str, Node>, local: Node) -> Opti
                 None => return Some(form_fault(within)),
             },
             Some(("Named", &[head, types])) => {
-                let Some(name) = name_of(tree, head, types) else {
+                let Some((name, given)) = name_of(tree, head, types) else {
                     return Some(form_fault(within));
                 };
-                if !met.insert(name) {
+                // What it holds of the types that it takes is held by one of these.
+                held.extend(given.iter().map(|&one| (one, within)));
+                if met.contains(name) {
                     continue;
                 }
                 let Some(&shape) = described.get(name) else {
+                    if !given.is_empty() {
+                        return Some(form_fault(within));
+                    }
                     return Some(format!("holds {name}, which is not described"));
                 };
-                match fields_of(tree, shape) {
-                    Some(fields) => {
-                        held.extend(fields.into_iter().map(|field| (field, Some(name))))
-                    }
-                    None => return Some(form_fault(Some(name))),
-                }
+                met.insert(name);
+                let Some(fields) = fields_of(tree, shape) else {
+                    return Some(form_fault(Some(name)));
+                };
+                let own =
+                    fields.into_iter().filter(|&field| given.is_empty() || !is_taken(tree, field));
+                held.extend(own.map(|field| (field, Some(name))));
             }
             _ => return Some(form_fault(within)),
         }
@@ -55,18 +61,20 @@ fn form_fault(within: Option<&str>) -> String {
     }
 }
 
-/// The name of a named type that takes no types. The lifetimes that it takes hold nothing.
-fn name_of<'t>(tree: &Tree<'t>, head: Node, types: Node) -> Option<&'t str> {
+/// The name of a named type, and the types that it takes. The lifetimes that it takes hold nothing.
+fn name_of<'a, 't>(tree: &'a Tree<'t>, head: Node, types: Node) -> Option<(&'t str, &'a [Node])> {
     let [name, lifetimes] = tree.fields(head, ["name", "lifetimes"])?;
     for &lifetime in tree.members(lifetimes)? {
         let (("Named" | "Bound", [_]) | ("Static" | "Erased", [])) = tree.applied(lifetime)? else {
             return None;
         };
     }
-    match tree.members(types)? {
-        [] => tree.text(name),
-        _ => None,
-    }
+    Some((tree.text(name)?, tree.members(types)?))
+}
+
+/// Whether a field is of a type that its type takes.
+fn is_taken(tree: &Tree, field: Node) -> bool {
+    matches!(tree.applied(field), Some(("Param", [_])))
 }
 
 /// The name and the shape of a type, as a function describes it.

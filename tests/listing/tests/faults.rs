@@ -276,6 +276,28 @@ fn arrays() {
 }
 
 #[test]
+fn types_that_are_taken() {
+    let answer = |of: &str, error: &str| {
+        format!(r#"{{"Named":[{{"name":"a::Answer","lifetimes":[]}},[{of},{error}]]}}"#)
+    };
+    let variants =
+        |second: &str| described_enum("a::Answer", &[list(&[r#"{"Param":0}"#]), list(&[second])]);
+    let plain = variants(r#"{"Param":1}"#);
+    let number = r#"{"Int":64}"#;
+    let fault = |local: String, shape: &String| faults_of_local(&local, &[shape.clone()]);
+    assert_eq!(fault(answer(number, UNIT), &plain), [""; 0]);
+    assert_eq!(fault(answer(&answer(number, UNIT), UNIT), &plain), [""; 0]);
+    let held = ["a::root: local 1 holds an array"];
+    assert_eq!(fault(answer(ARRAY, UNIT), &plain), held);
+    assert_eq!(fault(answer(&answer(UNIT, ARRAY), UNIT), &plain), held);
+    let within = ["a::root: local 1 holds an array in a::Answer"];
+    assert_eq!(fault(answer(number, UNIT), &variants(ARRAY)), within);
+    let unknown = ["a::root: local 1 holds a::Answer, in which a type is of unknown form"];
+    let nested = answer(r#"{"Param":1}"#, number);
+    assert_eq!(fault(answer(number, UNIT), &variants(&nested)), unknown);
+}
+
+#[test]
 fn an_array_of_a_callee() {
     let text = list(&[
         function("a::leaf", &[UNIT, UNIT, ARRAY, ARRAY], &[RETURN], &[]),

@@ -3,12 +3,14 @@ use Prim.Native.Nat.{ℕ}
 use mathlib.Core.Path.{◌≡◌, ap}
 use mathlib.Core.Bool.{◌&&◌, not}
 use lib.Dec.{eqb}
-use borrow.Author.Tests.{eq-eqb, ne_eqb}
+use borrow.Author.Tests.{ne_eqb}
 use Rattle.slot.specs.Row.{head_of}
 use Rattle.slot.specs.declared.Slot.{Slot}
 use Rattle.slot.specs.declared.Head.{Head}
+use Rattle.lawful.proofs.Tests.{stops}
 use Rattle.attach.specs.Attach.{uid_elsewhere}
 use Rattle.attach.proofs.is_elsewhere.Goals as goal
+use Rattle.attach.proofs.is_elsewhere.Goals.{then-h, else-h}
 
 -- the test goes by the head alone
 by-head :
@@ -18,10 +20,13 @@ unfolding uid_elsewhere
 by-head h s socket uid e = ap (λ (x : Head). x.taken && (not (eqb x.socket socket) && eqb x.uid uid)) e
 
 pub returns-then-h-socket : goal.returns-then-h-socket
-returns-then-h-socket c s e = rw (← by-head _ s _ _ e, c.if-h.true, eq-eqb _ _ c.if-h-socket.true)
+returns-then-h-socket c s e =
+    rw (← by-head _ s _ _ e, c.if-h-socket.true.0, ne_eqb _ _ c.if-h-socket.true.1)
 
-pub returns-then-h : goal.returns-then-h
-returns-then-h c s e = rw (← by-head _ s _ _ e, c.if-h.true, ne_eqb _ _ c.if-h-socket.false)
-
-pub returns : goal.returns
-returns c s e = rw (← by-head _ s _ _ e, c.if-h.false)
+pub returns-else-h-socket : goal.returns-else-h-socket
+returns-else-h-socket c s e =
+    let a = c.args in
+    rw (← by-head _ s _ _ e) (elim c.if-h.branch [
+      | then-h w ↦ rw w.if-h.true (stops {b = not (eqb a.h.socket a.socket)} _ (cc) (cc))
+      | else-h w ↦ rw w.if-h.false (cc)
+    ])

@@ -1,5 +1,4 @@
 -- `attach::is_uid_free` meets its contract. Invariant: the UID is not elsewhere in the first i slots.
-use Prim.Native.Nat.{◌-◌, ◌≤◌}
 use mathlib.Core.Bool.{true, not}
 use mathlib.Core.Path.{◌≡◌}
 use Rattle.wire.specs.Every.{every}
@@ -8,7 +7,4 @@ use Rattle.attach.specs.Attach.{uid_elsewhere}
 use Rattle.attach.proofs.is_uid_free.Given as goal
 
 abbrev pub invariant-loop-i : goal.invariant-loop-i
-invariant-loop-i l = (l.i ≤ l.slots) × (every l.i (λ j. not (uid_elsewhere l.socket l.uid (slot_at l.t j))) ≡ true)
-
-abbrev pub decreases-loop-i : goal.decreases-loop-i
-decreases-loop-i l = l.slots - l.i
+invariant-loop-i l = every l.i (λ j. not (uid_elsewhere l.socket l.uid (slot_at l.t j))) ≡ true

@@ -1,5 +1,4 @@
 -- `catalogue::are_legal_types` meets its contract. Invariant: the first i types are legal.
-use Prim.Native.Nat.{◌-◌, ◌≤◌}
 use mathlib.Core.Bool.{true}
 use mathlib.Core.Path.{◌≡◌}
 use Rattle.wire.specs.Every.{every}
@@ -7,7 +6,4 @@ use Rattle.catalogue.specs.Format.{type_legal}
 use Rattle.catalogue.proofs.are_legal_types.Given as goal
 
 abbrev pub invariant-loop-i : goal.invariant-loop-i
-invariant-loop-i l = (l.i ≤ l.n) × (every l.i (type_legal l.s) ≡ true)
-
-abbrev pub decreases-loop-i : goal.decreases-loop-i
-decreases-loop-i l = l.n - l.i
+invariant-loop-i l = every l.i (type_legal l.s) ≡ true

@@ -1,24 +1,22 @@
 use mathlib.Core.Path.{◌≡◌, refl, ◌∙◌}
 use native.Mathlib.Omega.{arith}
-use lib.ListN.{length-set}
-use Rattle.catalogue.proofs.Bytes.{fill_none, fill-next}
+use Rattle.catalogue.proofs.Bytes.{no-bytes, fill_none, filled}
 use Rattle.catalogue.proofs.parameter_bytes.Goals as goal
 
-pub loop-i-init : goal.loop-i-init
-loop-i-init c = (refl, omega arith, fill_none c.args.s.now c.span_of-span.result.from)
+pub loop-p-init : goal.loop-p-init
+loop-p-init c = (refl, fill_none c.bytes_behind-rest.result.now)
 
-pub loop-i-preserved : goal.loop-i-preserved
-loop-i-preserved c =
-    let l = c.loop-i in (
-      length-set l.bytes l.i _ ∙ l.invariant.0,
-      omega arith,
-      fill-next l.bytes c.args.s.now c.span_of-span.result.from l.i
-          (omega (arith, l.invariant.0, l.invariant.1, c.span_of-span.ensures.1)) l.invariant.2,
-    )
+pub returns-after-loop-p : goal.returns-after-loop-p
+returns-after-loop-p c =
+    let l = c.loop-p in
+    let m = c.min-most.ensures in
+    let n = c.min-count.ensures in
+    let e : l.p ≡ c.min-count.result = omega (arith, l.auto, c.loop-p-test.false) in
+    rw c.in-Some.is
+    record {
+      all = l.invariant.0;
+      each = λ p h. l.invariant.1 p ∙ rw e (filled c.args.s.now c.in-Some.d c.bytes_behind-rest.result.now c.min-count.result c.bytes_behind-rest.ensures (rw m at n) p h);
+    }
 
-pub returns : goal.returns
-returns c =
-    let l = c.loop-i in
-    let r = c.span_of-span in
-    let e : l.i ≡ r.result.count = omega arith in
-    record { all = l.invariant.0; each = λ p h. l.invariant.2 p ∙ rw e (r.ensures.2 p h) }
+pub returns-in_default : goal.returns-in_default
+returns-in_default c = rw c.in_default.is (no-bytes c.args.s.now)

@@ -1,4 +1,4 @@
-use mathlib.Core.Path.{◌≡◌, refl}
+use mathlib.Core.Path.{refl}
 use native.Mathlib.Omega.{arith}
 use Rattle.catalogue.specs.Format.{parameters_before}
 use Rattle.catalogue.proofs.Steps.{parameters-more}
@@ -6,10 +6,7 @@ use Rattle.catalogue.proofs.parameters_before.Goals as goal
 
 pub loop-i-init : goal.loop-i-init
 unfolding parameters_before
-loop-i-init c = (omega arith, refl, omega arith)
+loop-i-init c = (refl, omega arith)
 
 pub loop-i-preserved : goal.loop-i-preserved
-loop-i-preserved c = (omega arith, rw (parameters-more, ← c.number_at-sum.ensures.0, ← c.loop-i.invariant.1), omega arith)
-
-pub returns : goal.returns
-returns c = let e : c.loop-i.i ≡ c.args.n = omega arith in rw (← e) (c.loop-i.invariant.1, c.loop-i.invariant.2)
+loop-i-preserved c = (rw (parameters-more, ← c.number_at-sum.ensures.0, ← c.loop-i.invariant.0), omega arith)

@@ -1,14 +1,20 @@
 -- `read_parameter` is `read_of`, by the cases of the admission.
+use mathlib.Core.Path.{sym}
+use Rattle.std.proofs.Common.{rules}
 use Rattle.hub.proofs.Judgements.{socket-byte, read-when, read-not}
 use Rattle.hub.proofs.read_parameter.Goals as goal
 
 pub overflow_cast-socket : goal.overflow_cast-socket
 overflow_cast-socket c =
-    record { fits = socket-byte _ _ _ c.admit-a.result c.admit-a.ensures c.in-Accepted.is }
+    let told = c.in_ok-admit.was in
+    record { fits = socket-byte _ _ _ c.admit.ensures told }
 
-pub returns-in-Accepted : goal.returns-in-Accepted
-returns-in-Accepted c =
-    read-when _ _ _ c.admit-a.result c.admit-a.ensures _ _ c.in-Accepted.is c.read.ensures
+pub returns : goal.returns
+returns c =
+    let told = c.in_ok-admit.was in
+    read-when _ _ _ c.admit.ensures _ _ told c.read.ensures
 
-pub returns-in-Refused : goal.returns-in-Refused
-returns-in-Refused c = read-not _ _ _ _ c.admit-a.ensures _ _ c.in-Refused.is
+pub returns-in_err-admit : goal.returns-in_err-admit
+returns-in_err-admit c =
+    let told = c.in_err-admit.was in
+    rw (sym (read-not _ _ _ c.admit.ensures c.args.index told)) (search rules)

@@ -1,5 +1,5 @@
 -- `lawful::above` meets its contract. Invariant: the first i flags are found.
-use Prim.Native.Nat.{ℕ, ◌-◌, ◌≤◌, ◌<◌}
+use Prim.Native.Nat.{ℕ, ◌<◌}
 use mathlib.Core.Path.{◌≡◌}
 use mathlib.Core.Bool.{false}
 use lib.Dec.{ltb}
@@ -8,8 +8,4 @@ use Rattle.slot.specs.Slot.{param_count}
 use Rattle.lawful.proofs.above.Given as goal
 
 abbrev pub invariant-loop-i : goal.invariant-loop-i
-invariant-loop-i l =
-    (length l.found ≡ param_count) × (l.i ≤ param_count) × ((p : ℕ) → p < l.i → get_or l.found p false ≡ ltb l.limit (get_or l.bits p 0))
-
-abbrev pub decreases-loop-i : goal.decreases-loop-i
-decreases-loop-i l = param_count - l.i
+invariant-loop-i l = (length l.found ≡ param_count) × ((p : ℕ) → p < l.i → get_or l.found p false ≡ ltb l.limit (get_or l.fn.bits p 0))

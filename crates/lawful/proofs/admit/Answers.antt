@@ -1,40 +1,40 @@
 -- `lawful::admit` meets its contract, by the tests that lead to each answer.
-use borrow.Author.Tests.{lt-ltb, le-ltb}
+use borrow.Author.Tests.{lt-ltb, le-ltb, not-true, not-false}
 use Rattle.lawful.specs.Lawful.{admission}
 use Rattle.lawful.proofs.admit.Goals as goal
 
-pub returns-then-socket-sockets : goal.returns-then-socket-sockets
+pub returns-then-not-is_legal : goal.returns-then-not-is_legal
 unfolding admission
-returns-then-socket-sockets c =
+returns-then-not-is_legal c = rw (← c.is_legal.ensures, not-true _ c.if-not-is_legal.true-raw)
+
+pub returns-then-not-is_lawful : goal.returns-then-not-is_lawful
+unfolding admission
+returns-then-not-is_lawful c =
     rw (
       ← c.is_legal.ensures,
-      c.if-is_legal.true,
+      not-false _ c.if-not-is_legal.false-raw,
       ← c.is_lawful.ensures,
-      c.if-is_lawful.true,
-      lt-ltb _ _ c.if-socket-sockets.true,
+      not-true _ c.if-not-is_lawful.true-raw,
     )
 
-pub returns-then-is_lawful : goal.returns-then-is_lawful
+pub returns-then-socket-from : goal.returns-then-socket-from
 unfolding admission
-returns-then-is_lawful c =
+returns-then-socket-from c =
     rw (
       ← c.is_legal.ensures,
-      c.if-is_legal.true,
+      not-false _ c.if-not-is_legal.false-raw,
       ← c.is_lawful.ensures,
-      c.if-is_lawful.true,
-      le-ltb _ _ c.if-socket-sockets.false,
-    )
-
-pub returns-then-is_legal : goal.returns-then-is_legal
-unfolding admission
-returns-then-is_legal c =
-    rw (
-      ← c.is_legal.ensures,
-      c.if-is_legal.true,
-      ← c.is_lawful.ensures,
-      c.if-is_lawful.false,
+      not-false _ c.if-not-is_lawful.false-raw,
+      le-ltb _ _ (rw c.from.ensures at c.if-socket-from.true),
     )
 
 pub returns : goal.returns
 unfolding admission
-returns c = rw (← c.is_legal.ensures, c.if-is_legal.false)
+returns c =
+    rw (
+      ← c.is_legal.ensures,
+      not-false _ c.if-not-is_legal.false-raw,
+      ← c.is_lawful.ensures,
+      not-false _ c.if-not-is_lawful.false-raw,
+      lt-ltb _ _ (rw c.from.ensures at c.if-socket-from.false),
+    )

@@ -7,18 +7,13 @@ use Rattle.lawful.proofs.are_lawful_values.Goals as goal
 
 pub loop-i-init : goal.loop-i-init
 unfolding every
-loop-i-init c = (omega arith, refl)
+loop-i-init c = refl
 
 pub loop-i-preserved : goal.loop-i-preserved
 loop-i-preserved c =
-    let l = c.loop-i in
-    let t = c.loop-i-test.true in (
-      omega arith,
-      every-grow _ _ l.invariant.1
-          (c.is_lawful_value-lawful.ensures _
-          (c.above-above0.ensures l.i t)
-          (c.above-above1.ensures l.i t)),
-    )
+    let i = c.loop-i.i in
+    every-grow _ _ c.loop-i.invariant
+    (c.is_lawful_value-lawful.ensures _ (c.above-above0.ensures i (omega arith)) (c.above-above1.ensures i (omega arith)))
 
 pub returns : goal.returns
-returns c = let e : c.loop-i.i ≡ param_count = omega arith in rw (← e) c.loop-i.invariant.1
+returns c = let e : c.loop-i.i ≡ param_count = omega arith in rw (← e) c.loop-i.invariant

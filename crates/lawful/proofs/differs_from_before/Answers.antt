@@ -1,5 +1,6 @@
 use mathlib.Core.Path.{refl, sym, ◌∙◌}
 use native.Mathlib.Omega.{arith}
+use borrow.Author.Tests.{not-true, not-false}
 use Rattle.wire.specs.Every.{every}
 use Rattle.wire.proofs.Chains.{every-all, every_more, every-stop}
 use Rattle.slot.specs.Rows.{slot_at}
@@ -7,21 +8,21 @@ use Rattle.lawful.proofs.differs_from_before.Goals as goal
 
 pub loop-j-init : goal.loop-j-init
 unfolding every
-loop-j-init c = (omega arith, refl)
+loop-j-init c = refl
 
 pub loop-j-preserved : goal.loop-j-preserved
 loop-j-preserved c =
     let a = c.args in
     let d = c.do_heads_differ.ensures (slot_at a.t.now c.loop-j.j) (slot_at a.t.now a.i) c.head_at-g.ensures
     c.head_at-h.ensures in
-    (omega arith, every_more _ _ c.loop-j.invariant.1 (sym d ∙ c.if-do_heads_differ.true))
+    every_more _ _ c.loop-j.invariant (sym d ∙ not-false _ c.if-not-do_heads_differ.false-raw)
 
-pub returns-else-do_heads_differ : goal.returns-else-do_heads_differ
-returns-else-do_heads_differ c =
+pub returns-then-not-do_heads_differ : goal.returns-then-not-do_heads_differ
+returns-then-not-do_heads_differ c =
     let a = c.args in
     let d = c.do_heads_differ.ensures (slot_at a.t.now c.loop-j.j) (slot_at a.t.now a.i) c.head_at-g.ensures
     c.head_at-h.ensures in
-    every-stop a.i c.loop-j.j _ (omega arith) (sym d ∙ c.if-do_heads_differ.false)
+    every-stop a.i c.loop-j.j _ (omega arith) (sym d ∙ not-true _ c.if-not-do_heads_differ.true-raw)
 
 pub returns : goal.returns
-returns c = let l = c.loop-j in every-all _ l.j _ l.invariant.0 (omega arith) l.invariant.1
+returns c = let l = c.loop-j in every-all _ l.j _ (omega arith) (omega arith) l.invariant

@@ -1,5 +1,4 @@
 -- `lawful::differs_from_before` meets its contract. Invariant: slot i differs from the first j slots.
-use Prim.Native.Nat.{◌-◌, ◌≤◌}
 use mathlib.Core.Path.{◌≡◌}
 use mathlib.Core.Bool.{true}
 use Rattle.wire.specs.Every.{every}
@@ -8,7 +7,4 @@ use Rattle.lawful.specs.Lawful.{slots_differ}
 use Rattle.lawful.proofs.differs_from_before.Given as goal
 
 abbrev pub invariant-loop-j : goal.invariant-loop-j
-invariant-loop-j l = (l.j ≤ l.i) × (every l.j (λ k. slots_differ (slot_at l.t k) (slot_at l.t l.i)) ≡ true)
-
-abbrev pub decreases-loop-j : goal.decreases-loop-j
-decreases-loop-j l = l.i - l.j
+invariant-loop-j l = every l.j (λ k. slots_differ (slot_at l.t k) (slot_at l.t l.i)) ≡ true

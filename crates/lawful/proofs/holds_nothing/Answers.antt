@@ -8,11 +8,11 @@ use Rattle.lawful.proofs.holds_nothing.Goals as goal
 
 pub loop-i-init : goal.loop-i-init
 unfolding every
-loop-i-init c = (omega arith, refl)
+loop-i-init c = refl
 
 pub loop-i-preserved : goal.loop-i-preserved
 unfolding nothing_held
-loop-i-preserved c = (omega arith, every-grow _ _ c.loop-i.invariant.1 refl)
+loop-i-preserved c = every-grow _ _ c.loop-i.invariant refl
 
 pub returns : goal.returns
-returns c = let e : c.loop-i.i ≡ param_count = omega arith in rw (← e) c.loop-i.invariant.1
+returns c = let e : c.loop-i.i ≡ param_count = omega arith in rw (← e) c.loop-i.invariant

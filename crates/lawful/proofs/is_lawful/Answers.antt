@@ -1,7 +1,7 @@
 use mathlib.Core.Path.{refl, sym, ◌∙◌}
 use native.Mathlib.Omega.{arith}
 use lib.ListN.{length}
-use borrow.Author.Tests.{eq-eqb, ne_eqb}
+use borrow.Author.Tests.{eq-eqb, ne_eqb, not-true, not-false}
 use Rattle.wire.specs.Every.{every}
 use Rattle.wire.proofs.Chains.{every-all, every_more, every-stop}
 use Rattle.table.specs.Places.{table_size}
@@ -22,23 +22,23 @@ returns-then-t-ne0 c =
 
 pub loop-i-init : goal.loop-i-init
 unfolding every
-loop-i-init c = (omega arith, refl)
+loop-i-init c = refl
 
 pub is_lawful_at-requires : goal.is_lawful_at-requires
 is_lawful_at-requires c = omega arith
 
 pub loop-i-preserved : goal.loop-i-preserved
 loop-i-preserved c =
-    (omega arith, every_more _ _ c.loop-i.invariant.1 (sym c.is_lawful_at.ensures ∙ c.if-is_lawful_at.true))
+    every_more _ _ c.loop-i.invariant (sym c.is_lawful_at.ensures ∙ not-false _ c.if-not-is_lawful_at.false-raw)
 
-pub returns-else-is_lawful_at : goal.returns-else-is_lawful_at
+pub returns-then-not-is_lawful_at : goal.returns-then-not-is_lawful_at
 unfolding lawful
-returns-else-is_lawful_at c =
+returns-then-not-is_lawful_at c =
     let a = c.args in
     rw (
       eq-eqb (length a.t.now) (table_size a.slots) (omega arith),
       ← every-stop a.slots c.loop-i.i (lawful_at a.sockets a.c.now a.t.now) (omega arith)
-          (sym c.is_lawful_at.ensures ∙ c.if-is_lawful_at.false),
+          (sym c.is_lawful_at.ensures ∙ not-true _ c.if-not-is_lawful_at.true-raw),
     )
 
 pub returns : goal.returns
@@ -47,5 +47,5 @@ returns c =
     let a = c.args in
     rw (
       eq-eqb (length a.t.now) (table_size a.slots) (omega arith),
-      ← every-all a.slots c.loop-i.i (lawful_at a.sockets a.c.now a.t.now) c.loop-i.invariant.0 (omega arith) c.loop-i.invariant.1,
+      ← every-all a.slots c.loop-i.i (lawful_at a.sockets a.c.now a.t.now) (omega arith) (omega arith) c.loop-i.invariant,
     )

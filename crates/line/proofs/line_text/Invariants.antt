@@ -10,11 +10,11 @@ use Rattle.line.proofs.Texts.{Done}
 use Rattle.line.proofs.line_text.Given as goal
 
 -- the line state and the text so far are those of the bytes before the offset, and each of these has at most one text line
-abbrev pub invariant-loop-text : goal.invariant-loop-text
-invariant-loop-text l =
-    (length l.bytes ≤ input_limit) × (length l.text ≡ text_room) × (length l.line ≡ LINE_ROOM) × (length l.packet ≡ PACKET_ROOM)
-    × (l.offset ≤ length l.bytes) × (l.used ≤ longest_line * l.offset) × Done l.bytes l.offset l.line (take l.used l.text)
+abbrev pub invariant-loop-out : goal.invariant-loop-out
+invariant-loop-out l =
+    (length l.bytes ≤ input_limit) × (length l.out.buffer ≡ text_room) × (length l.line ≡ LINE_ROOM) × (length l.packet ≡ PACKET_ROOM)
+    × (l.offset ≤ length l.bytes) × (l.out.used ≤ longest_line * l.offset) × Done l.bytes l.offset l.line (take l.out.used l.out.buffer)
 
 -- what is left of the bytes
-abbrev pub decreases-loop-text : goal.decreases-loop-text
-decreases-loop-text l = length l.bytes - l.offset
+abbrev pub decreases-loop-out : goal.decreases-loop-out
+decreases-loop-out l = length l.bytes - l.offset

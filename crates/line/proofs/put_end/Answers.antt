@@ -19,19 +19,19 @@ whole t n o offset st f e = e ∙ ap (λ (t : Output). puts t (drop 2 (end_piece
 
 pub returns-in-0 : goal.returns-in-0
 unfolding puts phase_name
-returns-in-0 c = rw (fresh_in _ (sym c.byte_at.ensures ∙ c.in-0.is)) (whole _ _ _ c.args.offset fresh c.put_number-at.ensures c.put.ensures)
+returns-in-0 c = rw (fresh_in _ (sym c.byte_at.ensures ∙ c.in-0.is)) (whole _ _ _ c.args.offset fresh c.put_number.ensures c.put.ensures)
 
 pub returns-in-1 : goal.returns-in-1
 unfolding puts phase_name
-returns-in-1 c = rw (skipping-in _ (sym c.byte_at.ensures ∙ c.in-1.is)) (whole _ _ _ c.args.offset skipping c.put_number-at.ensures c.put-in-1.ensures)
+returns-in-1 c = rw (skipping-in _ (sym c.byte_at.ensures ∙ c.in-1.is)) (whole _ _ _ c.args.offset skipping c.put_number.ensures c.put-in-1.ensures)
 
 pub returns-in-2 : goal.returns-in-2
 unfolding puts phase_name
-returns-in-2 c = rw (opened_in _ (sym c.byte_at.ensures ∙ c.in-2.is)) (whole _ _ _ c.args.offset opened c.put_number-at.ensures c.put-in-2.ensures)
+returns-in-2 c = rw (opened_in _ (sym c.byte_at.ensures ∙ c.in-2.is)) (whole _ _ _ c.args.offset opened c.put_number.ensures c.put-in-2.ensures)
 
 pub returns-in_default : goal.returns-in_default
 unfolding puts phase_name
 returns-in_default c =
     let line = c.args.line.now in
     let late : 3 ≤ get_or line 0 0 = omega (arith, c.byte_at.ensures) in
-    rw (inside-in line late) (whole _ _ _ c.args.offset (inside (size_in line) (held_in line)) c.put_number-at.ensures c.put-in_default.ensures)
+    rw (inside-in line late) (whole _ _ _ c.args.offset (inside (size_in line) (held_in line)) c.put_number.ensures c.put-in_default.ensures)

@@ -11,6 +11,3 @@ returns-then-rows-i c =
     let at = row_numbers * c.args.i in
     let past = c.if-rows-i.true in
     rw (unpacked-past rows at (omega (arith, past)), unpacked-past rows (at + 1) (omega (arith, past)), unpacked-past rows (at + 2) (omega (arith, past)))
-
-pub returns : goal.returns
-returns c = rw (c.number_at.ensures, c.number_at-2.ensures, c.number_at-3.ensures)

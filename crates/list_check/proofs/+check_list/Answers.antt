@@ -1,5 +1,5 @@
-use Prim.Native.Nat.{◌+◌, ◌-◌, ◌≤◌}
-use mathlib.Core.Path.{sym, ap, ◌∙◌}
+use Prim.Native.Nat.{◌+◌, ◌-◌, ◌≤◌, ◌<◌}
+use mathlib.Core.Path.{◌≡◌, sym, ap, ◌∙◌}
 use native.Mathlib.Omega.{arith}
 use lib.ListN.{length}
 use borrow.Author.Tests.{ltb-true, le-leb, lt-leb}
@@ -39,10 +39,11 @@ returns-then-code-ne-LIST_CODE t c =
     c.typed_list.ensures k.0 (omega (arith, k.1))
     ∙ is-typed _ _ _ _ _ c.if-depth-eq0.false p.1 p.0 p.3 (lt-leb _ _ c.if-count-ge-NEGATIVE.false) k.0 k.1
 
-pub loop-left-init : goal.loop-left-init
-loop-left-init t c =
+pub loop-done-init : goal.loop-done-init
+loop-done-init t c =
     let p = c.requires in
-    (is-mixed _ _ _ _ _ c.if-depth-eq0.false p.1 p.0 p.3 (lt-leb _ _ c.if-count-ge-NEGATIVE.false) c.if-code-ne-LIST_CODE.false, omega arith)
+    let all : c.args.count - 0 ≡ c.args.count = omega arith in
+    rw all (is-mixed _ _ _ _ _ c.if-depth-eq0.false p.1 p.0 p.3 (lt-leb _ _ c.if-count-ge-NEGATIVE.false) c.if-code-ne-LIST_CODE.false, omega arith)
 
 pub overflow_sub-depth : goal.overflow_sub-depth
 overflow_sub-depth t c = omega (arith, c.if-depth-eq0.false)
@@ -57,7 +58,7 @@ in_list-requires-then-s-pos t c =
 
 pub returns-then-s-pos : goal.returns-then-s-pos
 returns-then-s-pos t c =
-    turn-fault _ _ _ _ _ _ _ _ _ c.loop-left.invariant.0 c.loop-left-test.true c.tail_fault.ensures c.in_list-then-s-pos.ensures
+    turn-fault _ _ _ _ _ _ _ _ _ c.loop-done.invariant.0 (omega arith) c.tail_fault.ensures c.in_list-then-s-pos.ensures
 
 pub in_list-requires-then-s-next : goal.in_list-requires-then-s-next
 in_list-requires-then-s-next t c = may-enclose _ _ _ c.missing_value.ensures
@@ -68,9 +69,9 @@ returns-then-s-next t c =
     let p = c.requires in
     let k = ap kind_of c.in-10.is ∙ kind-of-code Float in
     let e =
-    coded-missing (list_at (a.depth - 1) list_limit a.s.now) a.s.now c.loop-left.pos _ p.1 (omega (arith, c.if-s-pos.false)) c.u32_at-kind.ensures
+    coded-missing (list_at (a.depth - 1) list_limit a.s.now) a.s.now c.loop-done.pos _ p.1 (omega (arith, c.if-s-pos.false)) c.u32_at-kind.ensures
     Float k (omega (arith, c.if-s-next.true, c.behind-next.ensures)) in
-    turn-fault _ _ _ _ _ _ _ _ _ c.loop-left.invariant.0 c.loop-left-test.true (rw e c.missing_value.ensures) c.in_list-then-s-next.ensures
+    turn-fault _ _ _ _ _ _ _ _ _ c.loop-done.invariant.0 (omega arith) (rw e c.missing_value.ensures) c.in_list-then-s-next.ensures
 
 pub in_list-requires-then-is_refused : goal.in_list-requires-then-is_refused
 in_list-requires-then-is_refused t c = value-enclose _ Str _ _ c.string_end-next.ensures (sym c.is_refused.ensures ∙ c.if-is_refused.true)
@@ -78,7 +79,7 @@ in_list-requires-then-is_refused t c = value-enclose _ Str _ _ c.string_end-next
 pub returns-then-is_refused : goal.returns-then-is_refused
 returns-then-is_refused t c =
     let p = c.requires in
-    turn-stop _ _ _ _ _ _ _ c.loop-left.invariant.0 c.loop-left-test.true p.1 (omega (arith, c.if-s-pos.false))
+    turn-stop _ _ _ _ _ _ _ c.loop-done.invariant.0 (omega arith) p.1 (omega (arith, c.if-s-pos.false))
     Str _ _ (sym c.u32_at-kind.ensures ∙ c.in-4.is) c.string_end-next.ensures
     (sym c.is_refused.ensures ∙ c.if-is_refused.true) c.in_list-then-is_refused.ensures
 
@@ -88,7 +89,7 @@ in_list-requires-then-is_refused-2 t c = value-enclose _ Blob _ _ c.blob_end-nex
 pub returns-then-is_refused-2 : goal.returns-then-is_refused-2
 returns-then-is_refused-2 t c =
     let p = c.requires in
-    turn-stop _ _ _ _ _ _ _ c.loop-left.invariant.0 c.loop-left-test.true p.1 (omega (arith, c.if-s-pos.false))
+    turn-stop _ _ _ _ _ _ _ c.loop-done.invariant.0 (omega arith) p.1 (omega (arith, c.if-s-pos.false))
     Blob _ _ (sym c.u32_at-kind.ensures ∙ c.in-12.is) c.blob_end-next.ensures
     (sym c.is_refused-in-12.ensures ∙ c.if-is_refused-2.true) c.in_list-then-is_refused-2.ensures
 
@@ -102,9 +103,9 @@ returns-then-not-is_list_code t c =
     let k = no_kind c.u32_at-kind.result (λ e. omega arith) (λ e. omega arith) (λ e. omega arith) (λ e. omega arith) (λ e. omega arith) in
     let l = sym c.is_list_code.ensures ∙ c.if-not-is_list_code.true in
     let e =
-    coded-unknown (list_at (a.depth - 1) list_limit a.s.now) a.s.now c.loop-left.pos _ p.1 (omega (arith, c.if-s-pos.false)) c.u32_at-kind.ensures
+    coded-unknown (list_at (a.depth - 1) list_limit a.s.now) a.s.now c.loop-done.pos _ p.1 (omega (arith, c.if-s-pos.false)) c.u32_at-kind.ensures
     k l in
-    turn-fault _ _ _ _ _ _ _ _ _ c.loop-left.invariant.0 c.loop-left-test.true (rw e c.refuse-then-not-is_list_code.ensures) c.in_list-then-not-is_list_code.ensures
+    turn-fault _ _ _ _ _ _ _ _ _ c.loop-done.invariant.0 (omega arith) (rw e c.refuse-then-not-is_list_code.ensures) c.in_list-then-not-is_list_code.ensures
 
 pub overflow_sub-depth-in_default : goal.overflow_sub-depth-in_default
 overflow_sub-depth-in_default t c = omega (arith, c.if-depth-eq0.false)
@@ -128,19 +129,20 @@ pub returns-then-is_refused-3 : goal.returns-then-is_refused-3
 returns-then-is_refused-3 t c =
     let p = c.requires in
     let l = sym c.is_list_code.ensures ∙ c.if-not-is_list_code.false in
-    turn-bad _ _ _ _ _ _ _ c.loop-left.invariant.0 c.loop-left-test.true p.1 (omega (arith, c.if-s-pos.false))
+    turn-bad _ _ _ _ _ _ _ c.loop-done.invariant.0 (omega arith) p.1 (omega (arith, c.if-s-pos.false))
     _ _ c.u32_at-kind.ensures l c.check_list-next.ensures _ (sym c.is_refused-in_default.ensures ∙ c.if-is_refused-3.true) c.in_list-then-is_refused-3.ensures
 
-pub loop-left-preserved : goal.loop-left-preserved
-loop-left-preserved t c =
+pub loop-done-preserved : goal.loop-done-preserved
+loop-done-preserved t c =
     let s = c.args.s.now in
-    let inv = c.loop-left.invariant.0 in
-    let more = c.loop-left-test.true in
+    let inv = c.loop-done.invariant.0 in
+    let more : 0 < c.args.count - c.loop-done.done = omega arith in
+    let next : c.args.count - (c.loop-done.done + 1) ≡ c.args.count - c.loop-done.done - 1 = omega arith in
     let cut = c.requires.1 in
     let word = sym c.u32_at-kind.ensures in
-    let in₈ : c.loop-left.pos + 8 ≤ length s = c.if-s-pos.false in
-    let in₄ : c.loop-left.pos + 4 ≤ length s = omega (arith, in₈) in
-    elim c.match-kind.branch [
+    let in₈ : c.loop-done.pos + 8 ≤ length s = c.if-s-pos.false in
+    let in₄ : c.loop-done.pos + 4 ≤ length s = omega (arith, in₈) in
+    rw next (elim c.match-kind.branch [
       | in-1 w ↦ rw (w.seen-is ∙ w.common_code-seen.ensures, w.pos-is ∙ w.behind-pos.ensures)
           (turn-fixed _ _ _ _ _ _ _ inv more cut in₄ Int tt (word ∙ w.in-1.is) (omega (arith, in₈)))
       | in-9 w ↦ rw (w.seen-is ∙ w.common_code-seen-in-9.ensures, w.pos-is ∙ w.behind-pos-in-9.ensures)
@@ -154,7 +156,7 @@ loop-left-preserved t c =
       | in_default+else-not-is_list_code+else-is_refused-3 w ↦ rw (w.seen-is, w.pos-is)
           (turn-list _ _ _ _ _ _ _ inv more cut in₄ _ _ c.u32_at-kind.ensures (sym w.is_list_code.ensures ∙ w.if-not-is_list_code.false) w.check_list-next.ensures
           (sym w.is_refused-in_default.ensures ∙ w.if-is_refused-3.false))
-    ]
+    ])
 
 pub returns : goal.returns
-returns t c = c.close.ensures ∙ sym (c.loop-left.invariant.0 ∙ mixed-done _ _ _ _ _ _ c.loop-left-test.false)
+returns t c = c.close.ensures ∙ sym (c.loop-done.invariant.0 ∙ mixed-done _ _ _ _ _ _ (omega arith))

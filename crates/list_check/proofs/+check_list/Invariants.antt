@@ -10,9 +10,6 @@ use Rattle.list_check.proofs.+check_list.Given as goal
 abbrev pub decreases-check_list : goal.decreases-check_list
 decreases-check_list l = l.depth
 
-abbrev pub invariant-loop-left : goal.invariant-loop-left
-invariant-loop-left l =
-    (judged (list_at l.depth list_limit l.s l.at l.code) ≡ rest (list_at (l.depth - 1) list_limit l.s) l.s l.at l.left l.seen l.pos) × (l.pos ≤ list_limit)
-
-abbrev pub decreases-loop-left : goal.decreases-loop-left
-decreases-loop-left l = l.left
+abbrev pub invariant-loop-done : goal.invariant-loop-done
+invariant-loop-done l =
+    (judged (list_at l.depth list_limit l.s l.at l.code) ≡ rest (list_at (l.depth - 1) list_limit l.s) l.s l.at (l.count - l.done) l.seen l.pos) × (l.pos ≤ list_limit)

@@ -28,22 +28,22 @@ returns-then-is_list_code c =
     rw (coded-list _ a.s.now a.pos _ p.2 c.if-s-pos.false c.u32_at-code.ensures _ l e)
     (told_in _ _ _ c.missing-then-is_list_code.ensures c.in_list.ensures)
 
-pub returns-in-Is : goal.returns-in-Is
-returns-in-Is c =
+pub returns-in-Some : goal.returns-in-Some
+returns-in-Some c =
     let a = c.args in
-    let k = sym c.of_code.ensures ∙ c.in-Is.is in
+    let k = sym c.of_code.ensures ∙ c.in-Some.is in
     let p = c.requires in
-    let small = size_small c.in-Is.kind in
+    let small = size_small c.in-Some.kind in
     rw (coded-missing _ a.s.now a.pos _ p.2 c.if-s-pos.false c.u32_at-code.ensures _ k (omega (arith, small)))
     c.missing_value.ensures
 
-pub returns-in-Unknown : goal.returns-in-Unknown
-returns-in-Unknown c =
+pub returns-in-None : goal.returns-in-None
+returns-in-None c =
     let a = c.args in
-    let k = sym c.of_code.ensures ∙ c.in-Unknown.is in
+    let k = sym c.of_code.ensures ∙ c.in-None.is in
     let p = c.requires in
     let l = sym c.is_list_code.ensures ∙ c.if-is_list_code.false in
-    rw (coded-unknown _ a.s.now a.pos _ p.2 c.if-s-pos.false c.u32_at-code.ensures k l) c.refuse-in-Unknown.ensures
+    rw (coded-unknown _ a.s.now a.pos _ p.2 c.if-s-pos.false c.u32_at-code.ensures k l) c.refuse-in-None.ensures
 
 pub in_list-requires : goal.in_list-requires
 in_list-requires c = may-enclose _ _ _ c.missing-then-is_list_code.ensures

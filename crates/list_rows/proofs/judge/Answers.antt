@@ -5,18 +5,18 @@ use Rattle.list_rows.proofs.judge.Goals as goal
 
 pub returns-then-is_too_deep : goal.returns-then-is_too_deep
 returns-then-is_too_deep c =
-    let f = list-found _ _ (sym c.is_list.ensures ∙ c.if-is_list.true) in
+    let f = list-found _ _ (sym c.is_list.ensures ∙ c.if-not-is_list.false) in
     judged-deep _ _ f.0 f.1 (sym c.is_too_deep.ensures ∙ c.if-is_too_deep.true)
 
 pub returns-then-n-gt-LIST_LIMIT : goal.returns-then-n-gt-LIST_LIMIT
 returns-then-n-gt-LIST_LIMIT c =
-    let f = list-found _ _ (sym c.is_list.ensures ∙ c.if-is_list.true) in
+    let f = list-found _ _ (sym c.is_list.ensures ∙ c.if-not-is_list.false) in
     judged-long _ _ f.0 f.1 (sym c.is_too_deep.ensures ∙ c.if-is_too_deep.false) _ c.measure-n.ensures c.if-n-gt-LIST_LIMIT.true
 
-pub returns-then-is_list : goal.returns-then-is_list
-returns-then-is_list c =
-    let f = list-found _ _ (sym c.is_list.ensures ∙ c.if-is_list.true) in
-    judged-list _ _ f.0 f.1 (sym c.is_too_deep.ensures ∙ c.if-is_too_deep.false) _ c.measure-n.ensures c.if-n-gt-LIST_LIMIT.false
+pub returns-then-not-is_list : goal.returns-then-not-is_list
+returns-then-not-is_list c = judged-none _ _ (sym c.is_list.ensures ∙ c.if-not-is_list.true)
 
 pub returns : goal.returns
-returns c = judged-none _ _ (sym c.is_list.ensures ∙ c.if-is_list.false)
+returns c =
+    let f = list-found _ _ (sym c.is_list.ensures ∙ c.if-not-is_list.false) in
+    judged-list _ _ f.0 f.1 (sym c.is_too_deep.ensures ∙ c.if-is_too_deep.false) _ c.measure-n.ensures c.if-n-gt-LIST_LIMIT.false

@@ -3,7 +3,7 @@ use mathlib.Core.List.{List}
 use native.Mathlib.Omega.{arith}
 use lib.ListN.{length}
 use borrow.Author.Rules.{rules}
-use Rattle.packet_encode.proofs.EncodeSteps.{Coding, coding, coding-within, coding-length, coding-in, coding-next, coding-end}
+use Rattle.packet_encode.proofs.EncodeSteps.{Coding, coding, coding-within, coding-next, coding-end}
 use Rattle.packet_encode.proofs.encode_few.Goals as goal
 
 room : (last : ℕ) (bytes part₀ part : List ℕ) (code i : ℕ) → Coding (last - 1) bytes part₀ part code i → 0 < last → last + length bytes < 256 → 0 < i → (0 < code) × (code < 256)
@@ -15,18 +15,12 @@ loop-i-init c = coding c.args.last c.args.bytes.now c.args.part.now c.requires.1
 pub code_or-requires : goal.code_or-requires
 code_or-requires c = room _ _ _ _ _ _ c.loop-i.invariant c.requires.1 c.requires.2 (search rules)
 
-pub bounds-part-i : goal.bounds-part-i
-bounds-part-i c = coding-in _ _ _ _ _ _ (c.loop-i.i - 1) c.loop-i.invariant (omega arith) c.requires.0
-
 pub next_code-code-requires : goal.next_code-code-requires
 next_code-code-requires c = room _ _ _ _ _ _ c.loop-i.invariant c.requires.1 c.requires.2 (search rules)
 
 pub loop-i-preserved : goal.loop-i-preserved
 loop-i-preserved c =
     rw (c.code_or.ensures, c.next_code-code.ensures) (coding-next _ _ _ _ _ _ (c.loop-i.i - 1) c.loop-i.invariant (omega arith) c.requires.0)
-
-pub shape_of-part : goal.shape_of-part
-shape_of-part c = coding-length _ _ _ _ _ _ c.loop-i.invariant c.requires.0
 
 pub returns : goal.returns
 returns c = coding-end _ _ _ _ _ _ c.loop-i.invariant c.loop-i-test.false

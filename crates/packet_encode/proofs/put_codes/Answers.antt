@@ -5,7 +5,7 @@ use native.Mathlib.Omega.{arith}
 use lib.ListN.{length}
 use Rattle.packet.specs.Cobs.{code_or, gap_from}
 use borrow.Author.Rules.{rules}
-use Rattle.packet_encode.proofs.EncodeSteps.{Coding, coding-kept, coding, coding-within, coding-length, coding-in, coding-next, coding-end}
+use Rattle.packet_encode.proofs.EncodeSteps.{Coding, coding-kept, coding, coding-within, coding-next, coding-end}
 use Rattle.packet_encode.proofs.put_codes.Goals as goal
 
 lengths : (bytes part : List ℕ) → part ≡ bytes → length bytes ≡ length part
@@ -20,9 +20,6 @@ loop-i-init c = coding c.args.last c.args.bytes.now c.args.part.now c.requires.1
 pub overflow_cast-part : goal.overflow_cast-part
 overflow_cast-part c = omega (arith, room _ _ _ _ _ _ c.loop-i.invariant c.requires.1 c.requires.2 (search rules))
 
-pub bounds-part-i : goal.bounds-part-i
-bounds-part-i c = coding-in _ _ _ _ _ _ (c.loop-i.i - 1) c.loop-i.invariant (omega arith) (lengths _ _ c.requires.0)
-
 pub loop-i-preserved-then-bytes-i-eq0 : goal.loop-i-preserved-then-bytes-i-eq0
 unfolding code_or gap_from
 loop-i-preserved-then-bytes-i-eq0 c =
@@ -32,9 +29,6 @@ loop-i-preserved-then-bytes-i-eq0 c =
 
 pub overflow_add-code : goal.overflow_add-code
 overflow_add-code c = omega (arith, room _ _ _ _ _ _ c.loop-i.invariant c.requires.1 c.requires.2 (search rules))
-
-pub shape_of-part : goal.shape_of-part
-shape_of-part c = coding-length _ _ _ _ _ _ c.loop-i.invariant (lengths _ _ c.requires.0)
 
 pub returns : goal.returns
 returns c = coding-end _ _ _ _ _ _ c.loop-i.invariant c.loop-i-test.false

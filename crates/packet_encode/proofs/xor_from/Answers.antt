@@ -1,14 +1,9 @@
-use mathlib.Core.Path.{refl, sym, ◌∙◌}
-use native.Mathlib.Omega.{arith}
-use borrow.Author.Rules.{rules}
+use mathlib.Core.Path.{sym, ◌∙◌}
 use Rattle.packet.proofs.Sums.{xor-next, xor-past}
 use Rattle.packet_encode.proofs.xor_from.Goals as goal
 
-pub loop-i-init : goal.loop-i-init
-loop-i-init c = (omega arith, refl)
-
-pub loop-i-preserved : goal.loop-i-preserved
-loop-i-preserved c = (search rules, sym (xor-next c.args.bytes.now c.loop-i.i c.loop-i.x (search rules)) ∙ c.loop-i.invariant.1)
+pub loop-b-preserved : goal.loop-b-preserved
+loop-b-preserved c = sym (xor-next c.args.bytes.now c.loop-b.b-index c.loop-b.x c.loop-b-test.true) ∙ c.loop-b.invariant
 
 pub returns : goal.returns
-returns c = sym (xor-past c.args.bytes.now c.loop-i.i c.loop-i.x (search rules)) ∙ c.loop-i.invariant.1
+returns c = sym (xor-past c.args.bytes.now c.loop-b.b-index c.loop-b.x c.loop-b-test.false) ∙ c.loop-b.invariant

@@ -1,12 +1,8 @@
 -- `xor_from` is the exclusive or of all bytes from a start. The invariant: x with the bytes to come gives the whole.
-use Prim.Native.Nat.{◌≤◌, ◌-◌}
 use mathlib.Core.Path.{◌≡◌}
-use lib.ListN.{length, drop}
+use lib.ListN.{drop}
 use Rattle.packet.specs.Message.{xor_from}
 use Rattle.packet_encode.proofs.xor_from.Given as goal
 
-abbrev pub invariant-loop-i : goal.invariant-loop-i
-invariant-loop-i l = (l.i ≤ length l.bytes) × (xor_from l.x (drop l.i l.bytes) ≡ xor_from l.start l.bytes)
-
-abbrev pub decreases-loop-i : goal.decreases-loop-i
-decreases-loop-i l = length l.bytes - l.i
+abbrev pub invariant-loop-b : goal.invariant-loop-b
+invariant-loop-b l = xor_from l.x (drop l.b-index l.bytes) ≡ xor_from l.start l.bytes

@@ -1,9 +1,10 @@
-use mathlib.Core.Path.{refl, sym}
+use mathlib.Core.Path.{refl, ap, ◌∙◌}
 use native.Mathlib.Omega.{arith}
 use lib.ListN.{length}
-use lib.Seq.{length-take-le}
 use borrow.Author.Rules.{rules}
 use Rattle.list.specs.Refusal.{refusal_of}
+use Rattle.output.specs.Output.{output}
+use Rattle.output.proofs.Putting.{length-puts}
 use Rattle.report.specs.Text.{end_pieces, end_line, stop_pieces, stop_line, text_of}
 use Rattle.report.proofs.Adding.{pieces-added, end_short, stop-short}
 use Rattle.report.proofs.Answers.{end-found, stop-found, list-found, text-list, text-end, text-stop}
@@ -11,71 +12,59 @@ use Rattle.run.specs.Text.{line_of}
 use Rattle.run.proofs.Lines.{own-numbers}
 use Rattle.run.proofs.stream_text.Goals as goal
 
-pub loop-consumed-init : goal.loop-consumed-init
-loop-consumed-init c = (
+pub loop-list-init : goal.loop-list-init
+loop-list-init c = (
   search rules,
   search rules,
   search rules,
   search rules,
   search rules,
   search rules,
-  search rules,
-  search rules,
-  record { fuel = length c.args.bytes.now; enough = omega arith; text = refl },
+  record { fuel = length c.args.bytes.now; enough = omega arith; text = rw c.requires.2 refl },
 )
 
 pub overflow_add-offset : goal.overflow_add-offset
 overflow_add-offset c =
-    let l = c.loop-consumed in
-    let found = list-found _ l.offset l.rows l.store _ _ _ l.invariant.1 l.invariant.2 l.invariant.4 c.next-step.ensures c.type_inv.bytes _ _ _ c.in-List.is in
+    let l = c.loop-list in
+    let found = list-found _ l.offset l.rows l.store _ _ _ (search rules) (search rules) l.invariant.2 c.next.ensures c.type_inv.bytes c.in-Ok-Some.list (search rules) in
     search rules
 
-pub overflow_add-k : goal.overflow_add-k
-overflow_add-k c =
-    let l = c.loop-consumed in
-    let found = list-found _ l.offset l.rows l.store _ _ _ l.invariant.1 l.invariant.2 l.invariant.4 c.next-step.ensures c.type_inv.bytes _ _ _ c.in-List.is in
+pub loop-list-smaller : goal.loop-list-smaller
+loop-list-smaller c =
+    let l = c.loop-list in
+    let found = list-found _ l.offset l.rows l.store _ _ _ (search rules) (search rules) l.invariant.2 c.next.ensures c.type_inv.bytes c.in-Ok-Some.list (search rules) in
     search rules
 
-pub loop-consumed-smaller : goal.loop-consumed-smaller
-loop-consumed-smaller c =
-    let l = c.loop-consumed in
-    let found = list-found _ l.offset l.rows l.store _ _ _ l.invariant.1 l.invariant.2 l.invariant.4 c.next-step.ensures c.type_inv.bytes _ _ _ c.in-List.is in
-    search rules
-
-pub loop-consumed-preserved : goal.loop-consumed-preserved
-loop-consumed-preserved c =
-    let l = c.loop-consumed in
+pub loop-list-preserved : goal.loop-list-preserved
+loop-list-preserved c =
+    let l = c.loop-list in
     let s = c.args.bytes.now in
-    let found = list-found s l.offset l.rows l.store _ _ _ l.invariant.1 l.invariant.2 l.invariant.4 c.next-step.ensures c.type_inv.bytes _ _ _ c.in-List.is in
-    let line = own-numbers l.k found.tree found.size found.count c.list_line-used.ensures.0 in
-    let text = text-list line_of s (text_of line_of s) l.offset l.k l.used l.text _ _ l.invariant.8 found line in
-    (search rules, search rules, search rules, search rules, search rules, search rules, search rules, search rules, text)
+    let found = list-found s l.offset l.rows l.store _ _ _ (search rules) (search rules) l.invariant.2 c.next.ensures c.type_inv.bytes c.in-Ok-Some.list (search rules) in
+    let line = own-numbers l.k found.tree found.size found.count c.put_list.ensures.0 in
+    let text = text-list line_of s (text_of line_of s) l.offset l.k l.out.used l.out.buffer _ _ l.invariant.6 found line in
+    (search rules, search rules, search rules, search rules, search rules, search rules, text)
 
-pub returns-in-End : goal.returns-in-End
+pub returns-in-Ok-None : goal.returns-in-Ok-None
 unfolding end_line
-returns-in-End c =
-    let l = c.loop-consumed in
+returns-in-Ok-None c =
+    let l = c.loop-list in
     let s = c.args.bytes.now in
     let short = end_short l.offset in
     let added = pieces-added (end_pieces l.offset) c.put_end.ensures (search rules) in
-    let at = end-found s l.offset l.rows l.store _ _ _ l.invariant.1 l.invariant.2 l.invariant.4
-    c.next-step.ensures c.in-End.is in
-    let size = added.size in (
-      text-end line_of s (text_of line_of s) l.offset l.k l.used l.text _ _ l.invariant.8 at added,
-      (search rules, sym (length-take-le _ _ (search rules))),
-    )
+    let at = end-found s l.offset l.rows l.store _ _ _ (search rules) (search rules) l.invariant.2 c.next.ensures (search rules) in
+    let size = added.size in
+    let long = ap (λ t. length t.buffer) c.put_end.ensures ∙ length-puts (output l.out.buffer l.out.used) (end_pieces l.offset) in
+    (text-end line_of s (text_of line_of s) l.offset l.k l.out.used l.out.buffer _ _ l.invariant.6 at added, search rules)
 
-pub returns-in-Refused : goal.returns-in-Refused
+pub returns-in-Err : goal.returns-in-Err
 unfolding stop_line
-returns-in-Refused c =
-    let l = c.loop-consumed in
+returns-in-Err c =
+    let l = c.loop-list in
     let s = c.args.bytes.now in
-    let x = c.in-Refused.refusal in
+    let x = c.in-Err.refusal in
     let short = stop-short (refusal_of x) in
     let added = pieces-added (stop_pieces (refusal_of x)) c.put_stop.ensures (search rules) in
-    let at = stop-found s l.offset l.rows l.store _ _ _ l.invariant.1 l.invariant.2 l.invariant.4
-    c.next-step.ensures x line_of l.invariant.8.fuel l.k c.in-Refused.is in
-    let size = added.size in (
-      text-stop line_of s (text_of line_of s) l.offset l.k l.used l.text _ _ l.invariant.8 x at added,
-      (search rules, sym (length-take-le _ _ (search rules))),
-    )
+    let at = stop-found s l.offset l.rows l.store _ _ _ (search rules) (search rules) l.invariant.2 c.next.ensures x line_of l.invariant.6.fuel l.k c.in-Err.is in
+    let size = added.size in
+    let long = ap (λ t. length t.buffer) c.put_stop.ensures ∙ length-puts (output l.out.buffer l.out.used) (stop_pieces (refusal_of x)) in
+    (text-stop line_of s (text_of line_of s) l.offset l.k l.out.used l.out.buffer _ _ l.invariant.6 x at added, search rules)

@@ -3,7 +3,6 @@
 use Prim.Native.Nat.{◌+◌, ◌-◌, ◌*◌, ◌≤◌}
 use mathlib.Core.Path.{◌≡◌}
 use lib.ListN.{length, take}
-use Rattle.list.specs.Limits.{row_room, store_room}
 use Rattle.report.specs.Limits.{input_limit, least_list}
 use Rattle.report.specs.Text.{text_of}
 use Rattle.report.proofs.Answers.{Left}
@@ -11,11 +10,10 @@ use Rattle.run.specs.Limits.{longest_line, text_room}
 use Rattle.run.specs.Text.{line_of}
 use Rattle.run.proofs.stream_text.Given as goal
 
-abbrev pub invariant-loop-consumed : goal.invariant-loop-consumed
-invariant-loop-consumed l =
-    (length l.bytes ≤ input_limit) × (length l.rows ≡ 4 * row_room) × (length l.store ≡ store_room) × (length l.text ≡ text_room)
-    × (l.offset ≤ length l.bytes) × (1 ≤ l.k) × (least_list * l.k ≤ l.offset + least_list) × (l.used + longest_line ≤ longest_line * l.k)
-    × Left line_of l.bytes (text_of line_of l.bytes) l.offset l.k (take l.used l.text)
+abbrev pub invariant-loop-list : goal.invariant-loop-list
+invariant-loop-list l =
+    (length l.bytes ≤ input_limit) × (length l.out.buffer ≡ text_room) × (l.offset ≤ length l.bytes) × (1 ≤ l.k) × (least_list * l.k ≤ l.offset + least_list)
+    × (l.out.used + longest_line ≤ longest_line * l.k) × Left line_of l.bytes (text_of line_of l.bytes) l.offset l.k (take l.out.used l.out.buffer)
 
-abbrev pub decreases-loop-consumed : goal.decreases-loop-consumed
-decreases-loop-consumed l = length l.bytes - l.offset
+abbrev pub decreases-loop-list : goal.decreases-loop-list
+decreases-loop-list l = length l.bytes - l.offset

@@ -1,9 +1,11 @@
 -- `show::report` meets its contract: `too long` above the limit, else the stream's lines.
-use mathlib.Core.Path.{sym, ◌∙◌}
+use mathlib.Core.Path.{sym, ap, ◌∙◌}
+use mathlib.Core.List.{[], ◌∷◌}
 use lib.ListN.{length}
-use lib.Seq.{length-take-le}
 use borrow.Author.Tests.{ltb-true, ltb-false}
 use borrow.Author.Rules.{rules}
+use Rattle.output.specs.Output.{output, puts}
+use Rattle.output.proofs.Putting.{length-puts}
 use Rattle.report.specs.Limits.{input_limit}
 use Rattle.report.specs.Text.{too_long}
 use Rattle.report.proofs.Adding.{one_piece}
@@ -12,12 +14,14 @@ use Rattle.show.specs.Text.{line_of}
 use Rattle.show.proofs.report.Goals as goal
 
 pub returns-then-is_too_long : goal.returns-then-is_too_long
+unfolding puts
 returns-then-is_too_long c =
     let s = c.args.bytes.now in
     let long = ltb-true input_limit (length s) (sym c.is_too_long.ensures ∙ c.if-is_too_long.true) in
+    let room = ap (λ t. length t.buffer) c.put_too_long.ensures ∙ length-puts (output c.args.out.now.buffer c.args.out.now.used) (too_long ∷ []) in
     let added = one_piece too_long c.put_too_long.ensures (search rules) in
     let size = added.size in
-    (added.front ∙ sym (over-limit line_of s long), (search rules, sym (length-take-le _ _ (search rules))))
+    (rw c.requires.1 at added.front ∙ sym (over-limit line_of s long), search rules)
 
 pub stream_text-requires : goal.stream_text-requires
 stream_text-requires c =

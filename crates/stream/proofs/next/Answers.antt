@@ -23,21 +23,21 @@ returns-then-offset-bytes c =
     let r = room a.rows.now a.store.now ∙ c.if-not-enough.false in
     sym (step_end a.bytes.now a.offset a.rows.now a.store.now r c.if-offset-bytes.true)
 
-pub overflow_add-r : goal.overflow_add-r
-overflow_add-r c =
+pub overflow_add-result : goal.overflow_add-result
+overflow_add-result c =
     let a = c.args in
     let r = room a.rows.now a.store.now ∙ c.if-not-enough.false in
-    let w = read-within a.bytes.now a.offset a.rows.now a.store.now r (omega arith) _ _ c.in-Refused.is _ _ c.decode-decoded.ensures in
+    let w = read-within a.bytes.now a.offset a.rows.now a.store.now r (omega arith) _ _ _ c.in-Err.ensures in
     record { fits = omega arith }
 
-pub returns-in-List : goal.returns-in-List
-returns-in-List c =
+pub returns-in-Ok : goal.returns-in-Ok
+returns-in-Ok c =
     let a = c.args in
     let r = room a.rows.now a.store.now ∙ c.if-not-enough.false in
-    step-read a.bytes.now a.offset a.rows.now a.store.now r (omega arith) _ _ c.in-List.is _ _ c.decode-decoded.ensures
+    step-read a.bytes.now a.offset a.rows.now a.store.now r (omega arith) _ _ _ c.in-Ok.ensures
 
-pub returns-in-Refused : goal.returns-in-Refused
-returns-in-Refused c =
+pub returns-in-Err : goal.returns-in-Err
+returns-in-Err c =
     let a = c.args in
     let r = room a.rows.now a.store.now ∙ c.if-not-enough.false in
-    step-read a.bytes.now a.offset a.rows.now a.store.now r (omega arith) _ _ c.in-Refused.is _ _ c.decode-decoded.ensures
+    step-read a.bytes.now a.offset a.rows.now a.store.now r (omega arith) _ _ _ c.in-Err.ensures

@@ -1,12 +1,8 @@
--- `wire::clear` meets its contract. The loop's invariant: the first i bytes are zeros, and behind them stands what stood there.
-use Prim.Native.Nat.{◌-◌, ◌≤◌}
+-- `wire::clear` meets its contract. The loop's invariant: the bytes before the index are zeros, and the others are as they were.
 use mathlib.Core.Path.{◌≡◌}
 use mathlib.Core.List.{◌++◌}
-use lib.ListN.{length, drop, replicate}
+use lib.ListN.{drop, replicate}
 use Rattle.wire.proofs.clear.Given as goal
 
-abbrev pub invariant-loop-i : goal.invariant-loop-i
-invariant-loop-i l = (l.i ≤ length l.initial.area) × (length l.area ≡ length l.initial.area) × (l.area ≡ replicate l.i 0 ++ drop l.i l.initial.area)
-
-abbrev pub decreases-loop-i : goal.decreases-loop-i
-decreases-loop-i l = length l.initial.area - l.i
+abbrev pub invariant-loop-b : goal.invariant-loop-b
+invariant-loop-b l = l.area ≡ replicate l.b-index 0 ++ drop l.b-index l.initial.area

@@ -1,33 +1,27 @@
-use Prim.Native.Nat.{ℕ, ◌+◌, ◌-◌, ◌≤◌}
-use mathlib.Core.Path.{◌≡◌, refl, ◌∙◌}
-use mathlib.Core.List.{List, append_assoc}
+use mathlib.Core.Path.{◌≡◌, refl, ap, ◌∙◌}
 use native.Mathlib.Omega.{arith}
-use lib.ListN.{length, take}
-use lib.Seq.{take-add, take_at, length-take-le}
-use borrow.Author.Rules.{rules}
-use borrow.Rule.Slice.PartMut.{mid_of, put_mid}
-use Rattle.wire.proofs.Buffers.{copied_all}
+use lib.ListN.{length, length-drop}
+use Rattle.wire.proofs.Buffers.{cut-rest, cut-within, cut-copied, copied_all}
 use Rattle.wire.proofs.copy_long.Goals as goal
 
-step : (dst src : List ℕ) (at n : ℕ) (xs : List ℕ) → at + n ≤ length src → take at dst ≡ take at src → xs ≡ mid_of at (at + n - at) src
-    → take (at + n) (put_mid at (at + n - at) dst xs) ≡ take (at + n) src
-step dst src at n xs h e x =
-    let k : at + n - at ≡ n = omega arith in
-    rw (x, e, k, ← append_assoc, ← take-add at n src) (take_at _ _ _ (length-take-le (at + n) src h))
+pub loop-block-init : goal.loop-block-init
+loop-block-init c = record { size = cc; rest = cc; within = omega arith; copied = refl }
 
-pub loop-at-init : goal.loop-at-init
-loop-at-init c = (omega arith, refl, refl)
-
-pub loop-at-preserved : goal.loop-at-preserved
-loop-at-preserved c = (
-  search rules,
-  search rules,
-  step _ c.args.src.now c.loop-at.at _ _ (search rules) c.loop-at.invariant.2 c.copy_block.ensures,
-)
-
-pub shape_of-dst : goal.shape_of-dst
-shape_of-dst c = c.loop-at.invariant.1
+pub loop-block-preserved : goal.loop-block-preserved
+loop-block-preserved c =
+    let l = c.loop-block in
+    let s = c.in-Some.ensures.steps in
+    let w = cut-within c.args.src.now _ _ _ l.at _ l.invariant.within l.invariant.rest s.1.0 refl in
+    record {
+      size = s.0 ∙ l.invariant.size;
+      rest = cut-rest c.args.src.now _ _ _ l.at _ l.invariant.rest s.1.0 refl;
+      within = w;
+      copied = cut-copied l.dst c.args.src.now _ _ _ _ l.at l.invariant.rest s.1.0 w l.invariant.copied c.copy_block.ensures;
+    }
 
 pub returns : goal.returns
 returns c =
-    copied_all _ _ c.loop-at.at c.loop-at-test.false (c.loop-at.invariant.1 ∙ c.requires) c.loop-at.invariant.2
+    let l = c.loop-block in
+    let e : length (l.block-iterator.rest.now) ≡ 0 = c.in-None.ensures.steps.1.0 in
+    let f = simp length-drop at (ap length l.invariant.rest) in
+    copied_all _ _ l.at (omega (arith, e, f)) (l.auto.dst ∙ c.requires) l.invariant.copied

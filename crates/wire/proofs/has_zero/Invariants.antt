@@ -1,12 +1,8 @@
--- `wire::has_zero` meets its contract. The loop's invariant: the flag says whether a zero is among the first i bytes.
-use Prim.Native.Nat.{◌-◌, ◌≤◌}
+-- `wire::has_zero` meets its contract. The loop's invariant: the flag says whether a zero is among the bytes before the index.
 use mathlib.Core.Path.{◌≡◌}
-use lib.ListN.{length, take}
+use lib.ListN.{take}
 use Rattle.wire.specs.Zero.{has_zero}
 use Rattle.wire.proofs.has_zero.Given as goal
 
-abbrev pub invariant-loop-i : goal.invariant-loop-i
-invariant-loop-i l = (l.i ≤ length l.s) × (l.found ≡ has_zero (take l.i l.s))
-
-abbrev pub decreases-loop-i : goal.decreases-loop-i
-decreases-loop-i l = length l.s - l.i
+abbrev pub invariant-loop-b : goal.invariant-loop-b
+invariant-loop-b l = l.found ≡ has_zero (take l.b-index l.s)

@@ -1,13 +1,8 @@
--- `cinder_hub_read` is `read_call`, by the cases of the hub's answer.
-use mathlib.Core.Path.{refl}
-use Rattle.cinder.proofs.HubAnswers.{reading-told}
+-- `cinder_hub_read` is `read_call`: the hub's answer in numbers.
+use mathlib.Core.Path.{ap, ◌∙◌}
+use Rattle.cinder.specs.HubCall.{value_numbers, read_call}
 use Rattle.cinder.proofs.hub_call.cinder_hub_read.Goals as goal
 
-pub returns-in-Found : goal.returns-in-Found
-returns-in-Found c =
-    reading-told _ _ _ _ _ _ _ c.in-Found.is c.content_numbers.ensures
-    c.read_parameter-reading.ensures
-
-pub returns-in-Refused : goal.returns-in-Refused
-returns-in-Refused c =
-    reading-told _ _ _ _ _ _ _ c.in-Refused.is refl c.read_parameter-reading.ensures
+pub returns : goal.returns
+unfolding read_call
+returns c = c.from.ensures ∙ ap value_numbers c.read_parameter.ensures

@@ -4,14 +4,10 @@ use Rattle.cinder.specs.ListCall.{list_numbers, list_call}
 use Rattle.cinder.proofs.ListAnswers.{in-numbers}
 use Rattle.cinder.proofs.list_call.cinder_list_decode.Goals as goal
 
-pub returns-in-List : goal.returns-in-List
+pub returns-in-Ok : goal.returns-in-Ok
 unfolding list_call
-returns-in-List c =
-    in-numbers list_numbers reading_of _ _ _ _ _ _ c.in-List.is c.read.ensures
-    c.decode-decoded.ensures
+returns-in-Ok c = in-numbers list_numbers reading_of _ _ _ _ _ _ c.in-Ok.is c.from.ensures c.decode.ensures
 
-pub returns-in-Refused : goal.returns-in-Refused
+pub returns-in-Err : goal.returns-in-Err
 unfolding list_call
-returns-in-Refused c =
-    in-numbers list_numbers reading_of _ _ _ _ _ _ c.in-Refused.is c.refused.ensures
-    c.decode-decoded.ensures
+returns-in-Err c = in-numbers list_numbers reading_of _ _ _ _ _ _ c.in-Err.is c.from-in-Err.ensures c.decode.ensures

@@ -16,6 +16,6 @@ returns c =
     let row = a.rows.now in
     let small = c.ranges.second.fits in
     let same : a.second ≡ a.second + 256 ^ 4 * 0 = omega arith in
-    let wide : le_bytes 8 a.second ≡ le_bytes 4 a.second ++ le_bytes 4 0 = ap (le_bytes 8) same ∙ bytes-joined 4 4 a.second 0 (omega (arith, small)) in
-    part-puts row a.at (a.at + 12) 4 (le_bytes 4 a.code) (le_bytes 8 a.second) _ _ refl refl (search rules) c.put_u32.ensures c.put_u64.ensures
+    let wide : le_bytes 8 c.from.result ≡ le_bytes 4 a.second ++ le_bytes 4 0 = ap (le_bytes 8) (c.from.ensures ∙ same) ∙ bytes-joined 4 4 a.second 0 (omega (arith, small)) in
+    part-puts row a.at (a.at + 12) 4 (le_bytes 4 a.code) (le_bytes 8 c.from.result) _ _ refl refl (search rules) c.put_u32.ensures c.put_u64.ensures
     ∙ ap (λ l. sets row a.at (le_bytes 4 a.code ++ l)) wide

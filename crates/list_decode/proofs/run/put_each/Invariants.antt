@@ -1,13 +1,13 @@
--- `list_decode::run::put_each` meets its contract. The loop's invariant: `left` elements from `pos` on are left to write.
-use Rattle.list_decode.specs.Pieces.{cursor, stored, run, AllHere}
+-- `list_decode::run::put_each` meets its contract. The loop's invariant: the elements from `y` on are there and left to write.
+use Prim.Native.Nat.{◌-◌}
+use Rattle.list_decode.specs.Pieces.{run, EachHere}
 use Rattle.list_decode.proofs.Writing.{Rest}
 use Rattle.list_decode.proofs.run.put_each.Given as goal
 
-abbrev pub invariant-loop-left : goal.invariant-loop-left
-invariant-loop-left l =
-    AllHere l.s l.tail l.left l.pos
-    × Rest (cursor l.initial.pos l.initial.row l.initial.used) (run (stored l.s l.code l.tail) l.n l.initial.used l.initial.pos) l.initial.rows l.initial.store
-    (cursor l.pos l.row l.used) (run (stored l.s l.code l.tail) l.left l.used l.pos) l.rows l.store
-
-abbrev pub decreases-loop-left : goal.decreases-loop-left
-decreases-loop-left l = l.left
+abbrev pub invariant-loop : goal.invariant-loop
+invariant-loop g l =
+    let here = g.E.Element.here l.each l.s in
+    let gives = g.E.Element.gives l.each l.s in
+    EachHere here gives (l.n - l.counter) l.y.used l.y.pos
+    × Rest l.initial.y (run gives l.n l.initial.y.used l.initial.y.pos) l.initial.rows l.initial.store
+    l.y (run gives (l.n - l.counter) l.y.used l.y.pos) l.rows l.store

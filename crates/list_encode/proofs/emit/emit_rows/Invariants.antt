@@ -1,6 +1,6 @@
 -- `list_encode::emit::emit_rows` meets its contract.
 -- The invariant: the buffer at the end is what the rows from row i on make of it, and there is room and store for them.
-use Prim.Native.Nat.{◌+◌, ◌-◌, ◌≤◌}
+use Prim.Native.Nat.{◌+◌, ◌≤◌}
 use mathlib.Core.Path.{◌≡◌}
 use lib.ListN.{length}
 use lib.Seq.{sets}
@@ -16,6 +16,3 @@ invariant-loop-i l =
     × (l.end + size_from (rows_from (unpacked l.rows) l.i) l.left ≤ list_limit)
     × (l.used + stored_from (rows_from (unpacked l.rows) l.i) ≤ length l.store)
     × (length l.buffer ≡ length l.initial.buffer)
-
-abbrev pub decreases-loop-i : goal.decreases-loop-i
-decreases-loop-i l = l.count - l.i

@@ -6,8 +6,5 @@ use Rattle.list_rows.specs.Row.{rows_from}
 use Rattle.list_rows.specs.Emit.{common_in}
 use Rattle.list_rows.proofs.look.common_in.Given as goal
 
-abbrev pub invariant-loop-left : goal.invariant-loop-left
-invariant-loop-left l = common_in 0 l.n (rows_from (unpacked l.rows) l.first) ≡ common_in l.seen l.left (rows_from (unpacked l.rows) l.i)
-
-abbrev pub decreases-loop-left : goal.decreases-loop-left
-decreases-loop-left l = l.left
+abbrev pub invariant-loop-i : goal.invariant-loop-i
+invariant-loop-i l = common_in 0 l.n (rows_from (unpacked l.rows) l.first) ≡ common_in l.seen l.left (rows_from (unpacked l.rows) l.i)

@@ -27,7 +27,7 @@ returns-then-count-i c =
 
 pub overflow_add-used : goal.overflow_add-used
 overflow_add-used c =
-    let fits = sym c.row_fits.ensures ∙ c.if-row_fits.true in
+    let fits = sym c.row_fits.ensures ∙ c.if-not-row_fits.false in
     let inside = fits-inside _ _ _ c.loop-i.invariant.1 fits in
     omega arith
 
@@ -35,20 +35,20 @@ pub loop-i-preserved : goal.loop-i-preserved
 loop-i-preserved c =
     let a = c.args in
     let x = c.loop-i in
-    let inside = fits-inside _ _ _ x.invariant.1 (sym c.row_fits.ensures ∙ c.if-row_fits.true) in (
+    let inside = fits-inside _ _ _ x.invariant.1 (sym c.row_fits.ensures ∙ c.if-not-row_fits.false) in (
       turn-goes _ a.store.now (unpacked a.rows.now) x.i x.want x.used x.invariant.0
           (omega arith) (omega arith) _ c.row_at-row.ensures _ c.row_fits.ensures
-          _ _ c.if-row_fits.true c.gained_by.ensures.0 c.stored_by-used.ensures.0,
+          _ _ c.if-not-row_fits.false c.gained_by.ensures.0 c.stored_by-used.ensures.0,
       rw c.stored_by-used.ensures.0 inside,
     )
 
-pub returns-else-row_fits : goal.returns-else-row_fits
-returns-else-row_fits c =
+pub returns-then-not-row_fits : goal.returns-then-not-row_fits
+returns-then-not-row_fits c =
     let a = c.args in
     let x = c.loop-i in
     turn-stop _ a.store.now (unpacked a.rows.now) x.i x.want x.used x.invariant.0
     (omega arith) (omega arith)
-    _ c.row_at-row.ensures _ c.row_fits.ensures c.if-row_fits.false
+    _ c.row_at-row.ensures _ c.row_fits.ensures c.if-not-row_fits.true
 
 pub returns : goal.returns
 returns c =

@@ -1,6 +1,6 @@
 -- `list_rows::shape::is_element` meets its contract.
 -- The invariant: the answer for all rows is that for the rows from row i on, and `used` stays inside the store.
-use Prim.Native.Nat.{◌-◌, ◌≤◌}
+use Prim.Native.Nat.{◌≤◌}
 use mathlib.Core.Path.{◌≡◌}
 use lib.ListN.{length}
 use Rattle.list.specs.RowBytes.{unpacked}
@@ -11,6 +11,3 @@ use Rattle.list_rows.proofs.shape.is_element.Given as goal
 abbrev pub invariant-loop-i : goal.invariant-loop-i
 invariant-loop-i l =
     (shape l.store (unpacked l.rows) 1 0 ≡ shape l.store (rows_from (unpacked l.rows) l.i) l.want l.used) × (l.used ≤ length l.store)
-
-abbrev pub decreases-loop-i : goal.decreases-loop-i
-decreases-loop-i l = l.count - l.i

@@ -1,6 +1,6 @@
 -- `list_rows::size::measure` meets its contract.
 -- The invariant: the size of all rows is `total` and the size of the rows from row i on.
-use Prim.Native.Nat.{◌+◌, ◌-◌, ◌≤◌}
+use Prim.Native.Nat.{◌+◌, ◌≤◌}
 use mathlib.Core.Path.{◌≡◌}
 use Rattle.list.specs.Limits.{list_limit}
 use Rattle.list.specs.RowBytes.{unpacked}
@@ -11,6 +11,3 @@ use Rattle.list_rows.proofs.size.measure.Given as goal
 abbrev pub invariant-loop-i : goal.invariant-loop-i
 invariant-loop-i l =
     (size_from (unpacked l.rows) 0 ≡ l.total + size_from (rows_from (unpacked l.rows) l.i) l.left) × (l.total ≤ list_limit)
-
-abbrev pub decreases-loop-i : goal.decreases-loop-i
-decreases-loop-i l = l.count - l.i

@@ -61,6 +61,6 @@ returns c =
     let area = c.args.packet.now in
     let e = c.settle.ensures in
     let w = whole line bytes c.requires.0 c.requires.1 _ c.copy_at.ensures in
-    let error = c.deliver-error.ensures.0 ∙ ap packet_error w in
-    let out = c.deliver-error.ensures.1 ∙ ap (λ (p : List ℕ). delivered p area) w in
+    let error = c.deliver-judged.ensures.0 ∙ ap packet_error w in
+    let out = c.deliver-judged.ensures.1 ∙ ap (λ (p : List ℕ). delivered p area) w in
     rw (e.0, e.1, e.2) (judged (size_in line) _ _ (held_in line ++ bytes) area _ (sized line bytes c.requires.0 c.requires.1) error out)

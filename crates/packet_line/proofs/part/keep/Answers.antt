@@ -1,9 +1,9 @@
 -- `keep` puts the bytes behind those held and counts them.
 use Rattle.wire.specs.Area.{put_at}
 use Rattle.packet_line.specs.Steps.{IsInside}
-use Rattle.std.proofs.Common.{◌≡◌, ℕ, ◌+◌, ◌≤◌, List, ◌∷◌, ◌++◌, length, get_or, set, ap, ◌∙◌, arith, length-append, ◌<◌}
+use Rattle.std.proofs.Common.{◌≡◌, ℕ, ◌+◌, ◌≤◌, List, [], ◌∷◌, ◌++◌, length, get_or, set, sym, ap, ◌∙◌, arith, append-nil, length-append, ◌<◌}
 use Rattle.packet_line.proofs.Areas.{Inside, inside-area, held-put}
-use Rattle.packet_line.specs.State.{held_in, size_in, begun, INSIDE, line_of, state_bytes}
+use Rattle.packet_line.specs.State.{inside, held_in, size_in, begun, INSIDE, line_of, state_bytes}
 use Rattle.packet_line.proofs.part.keep.Goals as goal
 
 -- the state inside a part, and the bytes behind those held
@@ -18,6 +18,16 @@ module _ (line bytes : List ℕ) (inside : IsInside line) (room : length (held_i
   -- the area behind the copy
   put : (out : List ℕ) → out ≡ put_at line (4 + get_or line 1 0) bytes → out ≡ line_of (INSIDE ∷ length (held_in line) ∷ begun (size_in line) (held_in line ++ bytes))
   put out e = e ∙ held-put line bytes area (omega arith)
+
+-- no bytes behind those held
+none-more : (held xs : List ℕ) → length xs ≡ 0 → held ≡ held ++ xs
+none-more held [] e = sym (append-nil held)
+none-more held (x ∷ xs) e = absurd (omega (arith, e))
+
+pub returns-then-bytes-eq0 : goal.returns-then-bytes-eq0
+returns-then-bytes-eq0 c =
+    let line = c.args.line.now in
+    c.requires.0.spelled ∙ ap (λ (l : List ℕ). state_bytes (inside (size_in line) l)) (none-more (held_in line) c.args.bytes.now c.if-bytes-eq0.true)
 
 pub bounds-line-1 : goal.bounds-line-1
 bounds-line-1 c = omega (arith, (inside-area _ c.requires.0).long)

@@ -34,4 +34,4 @@ returns-in-2 c = rw (opened_in c.args.line.now c.in-2.is) (c.from_opened.ensures
 pub returns-in_default : goal.returns-in_default
 returns-in_default c =
     let l : 3 ≤ get_or c.args.line.now 0 0 = omega arith in
-    reached-inside c.args.line.now c.args.bytes.now c.args.packet.now (inside-line c.args.line.now l c.requires.0) (inside-in c.args.line.now l)
+    rw c.begun.ensures (reached-inside c.args.line.now c.args.bytes.now c.args.packet.now (inside-line c.args.line.now l c.requires.0) (inside-in c.args.line.now l))

@@ -44,4 +44,4 @@ returns c = λ area.
     let size = get_or bytes 0 0 in
     let one = some _ c.if-bytes-eq0.false in
     let good = begins-good size c.if-size-lt-PART_LEAST.false (omega (arith, c.type_inv.bytes 0)) in
-    reached-part _ bytes area size (part-begins c.args.line.now size c.requires) good one (opened-size bytes one c.if-size-lt-PART_LEAST.false)
+    rw c.begun.ensures (reached-part _ bytes area size (part-begins c.args.line.now size c.requires) good one (opened-size bytes one c.if-size-lt-PART_LEAST.false))

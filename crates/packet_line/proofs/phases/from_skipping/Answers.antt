@@ -1,6 +1,6 @@
 -- `from_skipping` takes a packet from the next 00 on.
-use Rattle.std.proofs.Common.{◌≡◌, ℕ, ◌<◌, List, length, drop, sym, ◌∙◌, arith}
-use Rattle.packet_line.proofs.Starts.{rest_of, skip-none, skip-found, first-there, reached-found, reached-later}
+use Rattle.std.proofs.Common.{◌≡◌, ℕ, ◌<◌, List, length, drop, sym, ◌∙◌, arith, length-drop}
+use Rattle.packet_line.proofs.Starts.{rest_of, skip-none, skip-found, first-there, reached-found, entered-fits, reached-later}
 use Rattle.packet_line.specs.Steps.{IsClean, later}
 use Rattle.wire.specs.Zero.{zero_at}
 use Rattle.wire.proofs.Zeros.{zero-within}
@@ -34,11 +34,19 @@ slice_bounds-from_zero-count c = omega (arith, there _ _ c.zero_at-at.ensures c.
 pub slice_bounds-from_zero-start : goal.slice_bounds-from_zero-start
 slice_bounds-from_zero-start c = omega (arith, there _ _ c.zero_at-at.ensures c.if-at-bytes.false)
 
-pub from_zero-e-requires : goal.from_zero-e-requires
-from_zero-e-requires c =
+pub from_zero-requires : goal.from_zero-requires
+from_zero-requires c =
     let e = c.zero_at-at.ensures in
     let f = first-there c.args.bytes.now _ e (there _ _ e c.if-at-bytes.false) in
     (clean _ c.requires.0, f.0, f.1, c.requires.1)
+
+pub behind-requires : goal.behind-requires
+behind-requires c =
+    let bytes = c.args.bytes.now in
+    let k = c.zero_at-at.result in
+    let h = there bytes k c.zero_at-at.ensures c.if-at-bytes.false in
+    let i = rw (rest_of bytes k) at c.from_zero.ensures in
+    omega (arith, entered-fits _ _ _ _ _ _ _ i, length-drop k bytes)
 
 pub returns : goal.returns
 returns c =
@@ -46,4 +54,4 @@ returns c =
     let k = c.zero_at-at.result in
     let h = there bytes k c.zero_at-at.ensures c.if-at-bytes.false in
     let on = skipped bytes k c.zero_at-at.ensures h in
-    reached-later k skipping fresh bytes c.args.packet.now (omega (arith, h)) on (rw (rest_of bytes k) at c.from_zero-e.ensures)
+    rw c.behind.ensures (reached-later _ _ _ _ k skipping fresh bytes c.args.packet.now (omega (arith, h)) on (rw (rest_of bytes k) at c.from_zero.ensures))

@@ -6,4 +6,4 @@ pub returns-then-byte-eq0 : goal.returns-then-byte-eq0
 returns-then-byte-eq0 c = rw (eq-eqb _ _ c.if-byte-eq0.true)
 
 pub returns : goal.returns
-returns c = rw (ne_eqb _ _ c.if-byte-eq0.false) c.wrapping_add_u8.ensures.value
+returns c = rw (ne_eqb _ _ c.if-byte-eq0.false)

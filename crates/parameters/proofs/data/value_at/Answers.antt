@@ -18,4 +18,4 @@ pub returns : goal.returns
 returns c =
     let one : c.args.w ≡ 1 =
     ⊎_elim (λ e. e) (⊎_elim (λ e. absurd (c.if-w-eq-SHORT.false e)) (λ e. absurd (c.if-w-eq-LONG.false e))) c.requires in
-    rw one (c.byte_at.ensures ∙ sym (number-1 c.args.payload.now c.args.at) ∙ sym (held_plain _ _ (λ e. omega arith)))
+    rw one (c.from.ensures ∙ c.byte_at.ensures ∙ sym (number-1 c.args.payload.now c.args.at) ∙ sym (held_plain _ _ (λ e. omega arith)))

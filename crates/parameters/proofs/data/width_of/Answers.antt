@@ -1,21 +1,22 @@
 -- `parameters::data::width_of` meets its contract, by the kind and the year.
+use mathlib.Core.Logic.{⊎_elim}
 use native.Mathlib.Omega.{arith}
-use borrow.Author.Tests.{eq-eqb, ne_eqb, lt-ltb, le-ltb}
-use Rattle.parameters.specs.Data.{width}
+use borrow.Author.Tests.{lt-ltb, le-ltb}
+use Rattle.parameters.specs.Data.{long_int_year, width}
 use Rattle.parameters.proofs.data.width_of.Goals as goal
 
-pub returns-then-year-lt-LONG_INT_YEAR : goal.returns-then-year-lt-LONG_INT_YEAR
+pub returns-in-Int : goal.returns-in-Int
 unfolding width
-returns-then-year-lt-LONG_INT_YEAR c = (rw (eq-eqb _ _ c.if-kind-eq-INT.true, lt-ltb _ _ c.if-year-lt-LONG_INT_YEAR.true), omega arith)
+returns-in-Int c = (rw (c.in-Int.is, lt-ltb c.args.year long_int_year (omega arith)), omega arith)
 
-pub returns-then-kind-eq-INT : goal.returns-then-kind-eq-INT
+pub returns-in-Int-2 : goal.returns-in-Int-2
 unfolding width
-returns-then-kind-eq-INT c = (rw (eq-eqb _ _ c.if-kind-eq-INT.true, le-ltb _ _ c.if-year-lt-LONG_INT_YEAR.false), omega arith)
+returns-in-Int-2 c = (rw (c.in-Int.is, le-ltb c.args.year long_int_year (omega arith)), omega arith)
 
-pub returns-then-kind-eq-FLOAT : goal.returns-then-kind-eq-FLOAT
+pub returns-in-Float : goal.returns-in-Float
 unfolding width
-returns-then-kind-eq-FLOAT c = (rw (ne_eqb _ _ c.if-kind-eq-INT.false, eq-eqb _ _ c.if-kind-eq-FLOAT.true), omega arith)
+returns-in-Float c = (rw c.in-Float.is, omega arith)
 
-pub returns : goal.returns
+pub returns-in-Bool : goal.returns-in-Bool
 unfolding width
-returns c = (rw (ne_eqb _ _ c.if-kind-eq-INT.false, ne_eqb _ _ c.if-kind-eq-FLOAT.false), omega arith)
+returns-in-Bool c = (⊎_elim (λ e. rw e) (λ e. rw e) c.in-Bool.is, omega arith)

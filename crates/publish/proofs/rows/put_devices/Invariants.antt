@@ -7,8 +7,5 @@ use Rattle.publish.proofs.rows.put_devices.Given as goal
 
 abbrev pub invariant-loop-socket : goal.invariant-loop-socket
 invariant-loop-socket l =
-    (l.socket ≤ socket_count) × (l.count ≤ l.socket) ×
+    (l.count ≤ l.socket) ×
     Left l.initial.buffer l.at (published slot_count socket_count l.c l.t) l.buffer l.end l.count (devices_from (socket_count - l.socket) slot_count l.c l.t l.socket)
-
-abbrev pub decreases-loop-socket : goal.decreases-loop-socket
-decreases-loop-socket l = socket_count - l.socket

@@ -7,8 +7,5 @@ use Rattle.publish.proofs.rows.put_parameters.Given as goal
 
 abbrev pub invariant-loop-p : goal.invariant-loop-p
 invariant-loop-p l =
-    (l.p ≤ param_count) × (l.count ≤ l.p)
+    (l.count ≤ l.p)
     × Left l.initial.buffer l.at (parameters_from param_count l.c l.s 0) l.buffer l.end l.count (parameters_from (param_count - l.p) l.c l.s l.p)
-
-abbrev pub decreases-loop-p : goal.decreases-loop-p
-decreases-loop-p l = param_count - l.p

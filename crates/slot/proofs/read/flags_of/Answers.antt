@@ -5,14 +5,14 @@ use Rattle.slot.specs.Slot.{param_count, tabulate}
 use Rattle.slot.proofs.Filling.{fill_step, fill-all}
 use Rattle.slot.proofs.read.flags_of.Goals as goal
 
-pub loop-i-init : goal.loop-i-init
+pub loop-p-init : goal.loop-p-init
 unfolding tabulate
-loop-i-init c = (omega arith, refl, refl)
+loop-p-init c = (refl, refl)
 
-pub loop-i-preserved : goal.loop-i-preserved
-loop-i-preserved c =
-    let l = c.loop-i in
-    (omega arith, length-set l.flags l.i _ ∙ l.invariant.1, fill_step l.flags l.i _ (omega arith) l.invariant.2)
+pub loop-p-preserved : goal.loop-p-preserved
+loop-p-preserved c =
+    let l = c.loop-p in
+    (length-set l.flags l.p _ ∙ l.invariant.0, fill_step l.flags l.p _ (omega (arith, l.invariant.0)) l.invariant.1)
 
 pub returns : goal.returns
-returns c = let l = c.loop-i in fill-all param_count l.flags l.i _ l.invariant.0 (omega arith) l.invariant.1 l.invariant.2
+returns c = let l = c.loop-p in fill-all param_count l.flags l.p _ (omega arith) (omega arith) l.invariant.0 l.invariant.1

@@ -8,18 +8,17 @@ use Rattle.slot.specs.Row.{bits_from, word_size}
 use Rattle.slot.proofs.Filling.{fill_step, fill-all}
 use Rattle.slot.proofs.read.words_of.Goals as goal
 
-pub loop-i-init : goal.loop-i-init
+pub loop-p-init : goal.loop-p-init
 unfolding tabulate
-loop-i-init c = (omega arith, refl, refl)
+loop-p-init c = (refl, refl)
 
-pub loop-i-preserved : goal.loop-i-preserved
-loop-i-preserved c =
-    let l = c.loop-i in (
-      omega arith,
-      length-set l.words l.i _ ∙ l.invariant.1,
-      ap (λ x. take (l.i + 1) (set l.words l.i x)) c.word_at.ensures
-          ∙ fill_step l.words l.i (λ p. number_at word_size _ (bits_from + word_size * p)) (omega arith) l.invariant.2,
+pub loop-p-preserved : goal.loop-p-preserved
+loop-p-preserved c =
+    let l = c.loop-p in (
+      length-set l.words l.p _ ∙ l.invariant.0,
+      ap (λ x. take (l.p + 1) (set l.words l.p x)) c.word_of.ensures
+          ∙ fill_step l.words l.p (λ p. number_at word_size _ (bits_from + word_size * p)) (omega (arith, l.invariant.0)) l.invariant.1,
     )
 
 pub returns : goal.returns
-returns c = let l = c.loop-i in fill-all param_count l.words l.i _ l.invariant.0 (omega arith) l.invariant.1 l.invariant.2
+returns c = let l = c.loop-p in fill-all param_count l.words l.p _ (omega arith) (omega arith) l.invariant.0 l.invariant.1

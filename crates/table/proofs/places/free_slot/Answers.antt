@@ -1,28 +1,18 @@
-use mathlib.Core.Path.{◌≡◌, sym, ap, ◌∙◌}
+use mathlib.Core.Path.{sym, ◌∙◌}
 use native.Mathlib.Omega.{arith}
-use Rattle.slot.specs.declared.Head.{Head}
-use Rattle.table.specs.Places.{free_from}
-use Rattle.table.proofs.Steps.{free_step}
+use Rattle.std.proofs.Common.{below_more}
+use Rattle.std.specs.Prelude.{Some, None}
+use Rattle.table.proofs.Steps.{free_is}
 use Rattle.table.proofs.places.free_slot.Goals as goal
 
-pub loop-n-preserved : goal.loop-n-preserved
-loop-n-preserved c = (
-  omega arith,
-  c.loop-n.invariant.1 ∙ rw (
-    free_step _ _ _ c.loop-n-test.true,
-    ← ap (λ (h : Head). h.taken) c.head_at-h.ensures,
-    c.if-h.true,
-  ),
-)
+pub loop-i-preserved : goal.loop-i-preserved
+loop-i-preserved c = below_more _ _ c.loop-i.invariant (sym c.is_free.ensures ∙ c.if-is_free.false)
 
-pub returns-else-h : goal.returns-else-h
-returns-else-h c =
-    sym (c.loop-n.invariant.1 ∙ rw (
-      free_step _ _ _ c.loop-n-test.true,
-      ← ap (λ (h : Head). h.taken) c.head_at-h.ensures,
-      c.if-h.false,
-    ))
+pub returns-then-is_free : goal.returns-then-is_free
+returns-then-is_free c =
+    let i = c.loop-i.i in
+    free_is c.args.slots c.args.t.now (Some i)
+    (omega arith, c.loop-i-test.true, sym c.is_free.ensures ∙ c.if-is_free.true, λ k l m. c.loop-i.invariant k m)
 
 pub returns : goal.returns
-unfolding free_from
-returns c = let z : c.loop-n.n ≡ 0 = omega arith in rw (c.loop-n.invariant.1, z)
+returns c = free_is c.args.slots c.args.t.now None (λ k l m. c.loop-i.invariant k (omega arith))

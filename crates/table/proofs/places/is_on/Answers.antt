@@ -4,6 +4,7 @@ use mathlib.Core.Path.{◌≡◌, ap}
 use mathlib.Core.Bool.{◌&&◌}
 use lib.Dec.{eqb}
 use Rattle.slot.specs.Row.{head_of}
+use Rattle.slot.specs.Rows.{slot_at}
 use Rattle.slot.specs.declared.Slot.{Slot}
 use Rattle.slot.specs.declared.Head.{Head}
 use Rattle.table.specs.Places.{holds}
@@ -15,7 +16,7 @@ unfolding holds
 by-head h s socket e = ap (λ (x : Head). x.taken && eqb x.socket socket) e
 
 pub returns-then-h : goal.returns-then-h
-returns-then-h c s e = rw (← by-head _ s _ e, c.if-h.true)
+returns-then-h c = rw (← by-head _ (slot_at c.args.t.now c.args.i) _ c.head_at-h.ensures, c.if-h.true)
 
-pub returns : goal.returns
-returns c s e = rw (← by-head _ s _ e, c.if-h.false)
+pub returns-else-h : goal.returns-else-h
+returns-else-h c = rw (← by-head _ (slot_at c.args.t.now c.args.i) _ c.head_at-h.ensures, c.if-h.false)

@@ -13,7 +13,7 @@ use Rattle.text_check.proofs.span.blob_span.Given as goal
 
 abbrev pub invariant-loop-i : goal.invariant-loop-i
 invariant-loop-i l =
-    (l.at ≤ l.i) × (l.i ≤ length l.text) × (l.at + l.stored ≤ l.i)
+    (l.at ≤ l.i) × (l.at + l.stored ≤ l.i)
     × (and_read (bytes_at true 0 (drop l.at l.text)) counted ≡ further l.stored (l.i - l.at) (bytes_at (eqb l.stored 0) 0 (drop l.i l.text)))
 
 abbrev pub decreases-loop-i : goal.decreases-loop-i

@@ -1,20 +1,14 @@
 -- `text_check::span::byte_size` meets its contract: the size is that of what was read.
-use mathlib.Core.Path.{sym, ap}
-use lib.ListN.{length}
-use Rattle.text_value.specs.declared.WordRead.{WordRead}
-use Rattle.text_value.specs.Answers.{word_of}
-use Rattle.text_check.specs.Answers.{size_read}
+use mathlib.Core.Path.{refl}
 use Rattle.text_check.proofs.Spans.{sized}
 use Rattle.text_check.proofs.span.byte_size.Goals as goal
 
-pub returns-in-Is : goal.returns-in-Is
-returns-in-Is c = let a = c.args in
-    let r = c.blob_byte_at-byte.result in
-    let e = c.blob_byte_at-byte.ensures in
-    sized a.at (length a.text.now) _ (word_of r) _ e.0 e.1 (ap (λ (z : WordRead). size_read (word_of z)) (sym c.in-Is.is))
+pub returns-in_err-blob_byte_at : goal.returns-in_err-blob_byte_at
+returns-in_err-blob_byte_at c =
+    let e = c.in_err-blob_byte_at.ensures in
+    rw c.from_residual.ensures (sized _ _ _ _ _ e.0 e.1 refl)
 
-pub returns-in-Wrong : goal.returns-in-Wrong
-returns-in-Wrong c = let a = c.args in
-    let r = c.blob_byte_at-byte.result in
-    let e = c.blob_byte_at-byte.ensures in
-    sized a.at (length a.text.now) _ (word_of r) _ e.0 e.1 (ap (λ (z : WordRead). size_read (word_of z)) (sym c.in-Wrong.is))
+pub returns : goal.returns
+returns c =
+    let e = c.in_ok-blob_byte_at.ensures in
+    sized _ _ _ _ _ e.0 e.1 refl

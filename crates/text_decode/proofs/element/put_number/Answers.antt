@@ -17,11 +17,6 @@ overflow_add-x c =
     let a = c.args in
     omega (arith, number-inside a.text.now a.x.pos c.known_sign-sign.result c.known_sign-sign.ensures c.requires.there)
 
-pub is_float-requires : goal.is_float-requires
-is_float-requires c =
-    let a = c.args in
-    number-inside a.text.now a.x.pos c.known_sign-sign.result c.known_sign-sign.ensures c.requires.there
-
 pub put_float-requires : goal.put_float-requires
 put_float-requires c =
     let a = c.args in

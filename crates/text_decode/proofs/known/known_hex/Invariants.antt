@@ -9,6 +9,3 @@ use Rattle.text_decode.proofs.known.known_hex.Given as goal
 abbrev pub invariant-loop-i : goal.invariant-loop-i
 invariant-loop-i l =
     (fixed_from 16 l.width 0 (drop l.at l.text) ≡ fixed_from 16 (l.width - l.i) l.value (drop (l.at + l.i) l.text)) × (l.i ≤ l.width) × (l.value < 16 ^ l.i)
-
-abbrev pub decreases-loop-i : goal.decreases-loop-i
-decreases-loop-i l = l.width - l.i

@@ -7,6 +7,4 @@ pub overflow_add-result : goal.overflow_add-result
 overflow_add-result c = omega (arith, c.requires.0, unpacked-length c.args.rows.now)
 
 pub returns : goal.returns
-returns c =
-    let w = c.put_char-end.ensures in
-    (w.0, rw (w.1, c.row_at-row.ensures))
+returns c = record { written = c.put.ensures; to = rw (c.put.ensures.end, c.row_at-row.ensures) }

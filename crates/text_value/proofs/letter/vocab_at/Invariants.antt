@@ -2,7 +2,7 @@
 -- The invariant: the vocab of all letters is that of the letters from offset at + i on behind `bits`.
 use mathlib.Core.Path.{◌≡◌}
 use Prim.Native.Nat.{◌+◌, ◌-◌, ◌^◌, ◌≤◌, ◌<◌}
-use lib.ListN.{length, drop}
+use lib.ListN.{drop}
 use Rattle.digits.specs.Read.{and_read}
 use Rattle.text.specs.Read.{letters_at, vocab_at}
 use Rattle.text_value.proofs.Letters.{behind}
@@ -12,6 +12,3 @@ abbrev pub invariant-loop-i : goal.invariant-loop-i
 invariant-loop-i l =
     (vocab_at (drop l.at l.text) ≡ and_read (letters_at (4 - l.i) (drop (l.at + l.i) l.text)) (behind l.i l.unit l.bits))
     × (l.i ≤ 4) × (l.unit ≡ 256 ^ l.i) × (l.bits < l.unit)
-
-abbrev pub decreases-loop-i : goal.decreases-loop-i
-decreases-loop-i l = length l.text - l.at - l.i
