@@ -13,7 +13,7 @@ use Rattle.catalogue.specs.Lookup.{parameter_in, is_readable, kind_in, byte_in, 
 use Rattle.catalogue.specs.declared.Device.{Device}
 
 -- zeros read as 0, and so does what is past them
-zeros : (n p : ℕ) → get_or {A = ℕ} (replicate n 0) p 0 ≡ 0
+pub zeros : (n p : ℕ) → get_or {A = ℕ} (replicate n 0) p 0 ≡ 0
 zeros zero p = refl
 zeros (suc n) zero = refl
 zeros (suc n) (suc p) = zeros n p

@@ -67,7 +67,14 @@ pub extern "C" fn cinder_hub_receive(
 ) -> PacketResult
     ensures { record { answer = result; table = table.new } ≡ receive_call catalogue.now table.old socket bytes.now }
 {
-    PacketResult::from(hub::receive(catalogue, table, socket, bytes))
+    // By cases, so that a must-fail edit can change what this call alone hands on.
+    match hub::receive(catalogue, table, socket, bytes) {
+        Ok(consumed) => PacketResult::from(Ok(consumed)),
+        Err(error) => PacketResult {
+            error: error.number() as u64,
+            consumed: 0,
+        },
+    }
 }
 
 // The device on a socket leaves. Answers the number of the error, 0 for none.
@@ -86,7 +93,11 @@ pub extern "C" fn cinder_hub_detach(catalogue: &[u8], table: &mut [u8], socket: 
 pub extern "C" fn cinder_hub_publish(catalogue: &[u8], table: &[u8], list: &mut [u8]) -> WriteResult
     ensures { record { answer = result; area = list.new } ≡ publish_call catalogue.now table.now list.old }
 {
-    WriteResult::from(hub::publish(catalogue, table, list))
+    // By cases, so that a must-fail edit can change what this call alone hands on.
+    match hub::publish(catalogue, table, list) {
+        Ok(count) => WriteResult::from(Ok(count)),
+        Err(error) => WriteResult::from(Err(error)),
+    }
 }
 
 // One parameter of the device on a socket.

@@ -41,7 +41,11 @@ impl From<Result<Amounts, Error>> for TextResult {
 pub extern "C" fn cinder_text_encode(rows: &[u8], store: &[u8], text: &mut [u8]) -> WriteResult
     ensures { record { answer = result; area = text.new } ≡ text_write_call rows.now store.now text.old }
 {
-    WriteResult::from(text_encode::encode(rows, store, text))
+    // By cases, so that a must-fail edit can change what this call alone hands on.
+    match text_encode::encode(rows, store, text) {
+        Ok(count) => WriteResult::from(Ok(count)),
+        Err(error) => WriteResult::from(Err(error)),
+    }
 }
 
 // Reads the text of a list into rows of 12 bytes each and a byte store.

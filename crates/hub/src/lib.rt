@@ -25,8 +25,11 @@ pub const TABLE_BYTES: usize = SLOT_BYTES * SLOTS;
 pub fn detach(catalogue: &[u8], table: &mut [u8], socket: u64) -> Result<(), Error>
     ensures { record { verdict = verdict_of result; table = table.new } ≡ detached catalogue.now table.old socket }
 {
-    admit(catalogue, &*table, SLOTS, SOCKETS, socket)?;
-    attach::leave(table, SLOTS, socket as u8)
+    // By cases and not by `?`, so that a must-fail edit can change what is handed on.
+    match admit(catalogue, &*table, SLOTS, SOCKETS, socket) {
+        Ok(()) => attach::leave(table, SLOTS, socket as u8),
+        Err(error) => Err(error),
+    }
 }
 
 // One parameter of the device on a socket: IllegalCatalogue, Unlawful, NoSocket, NoDevice, or its value or absent.
@@ -38,8 +41,11 @@ pub fn read_parameter(
 ) -> Result<Option<Value>, Error>
     ensures { finding_of result ≡ read_of catalogue.now table.now socket index }
 {
-    admit(catalogue, table, SLOTS, SOCKETS, socket)?;
-    parameters::read(catalogue, table, SLOTS, socket as u8, index)
+    // By cases, as `detach`.
+    match admit(catalogue, table, SLOTS, SOCKETS, socket) {
+        Ok(()) => parameters::read(catalogue, table, SLOTS, socket as u8, index),
+        Err(refused) => Err(refused),
+    }
 }
 
 // The table as one list at the front of the buffer: how many bytes it has, or IllegalCatalogue, Unlawful or NoRoom.

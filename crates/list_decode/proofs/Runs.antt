@@ -1,8 +1,8 @@
 -- Laws of pieces one behind the other.
 use Rattle.std.specs.Prelude.{Option, Some, None}
 use Prim.Native.Nat.{ℕ, zero, suc, ◌+◌, ◌-◌, ◌*◌, ◌≤◌, ◌<◌}
-use mathlib.Core.Path.{◌≡◌}
-use mathlib.Core.List.{List}
+use mathlib.Core.Path.{◌≡◌, refl}
+use mathlib.Core.List.{List, []}
 use native.Mathlib.Omega.{arith}
 use native.Mathlib.Numerals.{sub-one}
 use lib.ListN.{length}
@@ -14,6 +14,12 @@ use Rattle.list.proofs.Codes.{code-of-kind}
 use Rattle.list_decode.specs.declared.put.Cursor.{Cursor}
 use Rattle.list_decode.specs.Pieces.{Piece, both, one_number, two_numbers, stored, run, found_run, Here, AllHere, EachHere, FoundHere, Room, Written}
 use Rattle.list_decode.proofs.Writing.{Rest, rest-step, rest-done, rest-room, room-first}
+
+-- `each` stores no byte
+pub bare-run : (each : ℕ → ℕ → Piece) → ((used at : ℕ) → (each used at).bytes ≡ []) → (n used at : ℕ) → (run each n used at).bytes ≡ []
+unfolding run
+bare-run each bare zero used at = refl
+bare-run each bare (suc n) used at = rw (bare used at) (bare-run each bare n (used + 0) (each used at).next)
 
 -- the first of some pieces
 pub run-some : (each : ℕ → ℕ → Piece) (n used at : ℕ) → 0 < n

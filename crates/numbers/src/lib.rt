@@ -1,11 +1,18 @@
 // Numbers as bytes, low byte first. Every function answers for every input.
 #![tactic(auto)]
 
-ghost use Rattle.std.specs.Prelude.{◌+◌, ◌*◌, ◌<◌, ◌≡◌, ◌++◌, length};
-ghost use Rattle.wire.specs.Number.{le_bytes, le_value, number_at};
+ghost use Rattle.std.specs.Prelude.{◌+◌, ◌*◌, ◌≡◌, ◌++◌};
+ghost use Rattle.wire.specs.Number.{le_bytes, number_at};
 ghost use Rattle.wire.specs.Area.{put_at};
 
 use wire::{byte_at, copy_at};
+
+// The number of two bytes, low byte first.
+fn join16(a: u8, b: u8) -> u16
+    ensures { result ≡ a + 256 * b }
+{
+    u16::from_le_bytes([a, b])
+}
 
 // The number of four bytes, low byte first.
 pub fn join32(a: u8, b: u8, c: u8, d: u8) -> u32
@@ -34,37 +41,18 @@ pub fn bytes64(x: u64) -> [u8; 8]
     x.to_le_bytes()
 }
 
-// The bytes at an offset; those past the end are zeros.
-fn bytes_at<const N: usize>(s: &[u8], at: usize) -> [u8; N]
-    ensures { le_value result ≡ number_at N s.now at }
-{
-    if s.len() <= at {
-        return [0; N];
-    }
-    match s[at..].first_chunk::<N>() {
-        Some(bytes) => *bytes,
-        None => padded(&s[at..]),
-    }
-}
-
-// A few bytes, and zeros behind them.
-fn padded<const N: usize>(s: &[u8]) -> [u8; N]
-    requires { length s.now < N }
-    ensures { le_value result ≡ le_value s.now }
-{
-    let mut bytes = [0; N];
-    bytes[..s.len()].copy_from_slice(s);
-    bytes
-}
-
 // The number of two bytes at an offset; bytes past the end count as zeros.
 pub fn u16_at(s: &[u8], at: usize) -> u16
     ensures { result ≡ number_at 2 s.now at }
 {
-    u16::from_le_bytes(bytes_at(s, at))
+    if s.len() <= at {
+        return 0;
+    }
+    join16(s[at], byte_at(s, at + 1))
 }
 
-// The same of four bytes, in a form without a call: by `bytes_at` list_check takes 24 instructions for an element, by this one 22.
+// The same of four bytes: one test where all of them are there. By `first_chunk` list_check takes 24 instructions for an element, by
+// this one 22.
 pub fn u32_at(s: &[u8], at: usize) -> u32
     ensures { result ≡ number_at 4 s.now at }
 {
@@ -81,7 +69,13 @@ pub fn u32_at(s: &[u8], at: usize) -> u32
 pub fn u64_at(s: &[u8], at: usize) -> u64
     ensures { result ≡ number_at 8 s.now at }
 {
-    u64::from_le_bytes(bytes_at(s, at))
+    if s.len() <= at {
+        return 0;
+    }
+    if s.len() - at <= 4 {
+        return u64::from(u32_at(s, at));
+    }
+    join64(u32_at(s, at), u32_at(s, at + 4))
 }
 
 // A number as four or eight bytes from an offset on, where all of them fit; else nothing changes.

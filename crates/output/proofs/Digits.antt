@@ -8,7 +8,7 @@ use native.Mathlib.Omega.{arith}
 use native.Mathlib.Nat.{pow-le-pow_right, eq-or-lt_of_le}
 use lib.Dec.{leb, ltb}
 use lib.ListN.{length, length-append}
-use borrow.Author.Tests.{leb-true, leb-false}
+use borrow.Author.Tests.{leb-true, leb-false, lt-ltb}
 use Rattle.io.specs.Digits.{hex_digit_ascii, last_digits, IsDigitCount}
 use Rattle.digits.specs.Decimal.{decimal_of, decimal, digit_room}
 use Rattle.digits.specs.Fixed.{fixed}
@@ -57,3 +57,8 @@ few-digits (suc most) n = go (ltb n 10) (few-digits most (n / 10))
 
 pub decimal-short : (n : ℕ) → length (decimal n) ≤ digit_room
 decimal-short n = few-digits digit_room n
+
+-- a number below 10 is its one digit
+pub decimal-one : (n : ℕ) → n < 10 → decimal n ≡ (48 + n) ∷ []
+unfolding decimal_of
+decimal-one n h = rw (lt-ltb n 10 h)

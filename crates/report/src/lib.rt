@@ -7,6 +7,8 @@ ghost use Rattle.output.specs.Output.{output as Output·output, put, puts};
 ghost use Rattle.report.specs.Limits.{input_limit};
 ghost use Rattle.report.specs.Text.{end_pieces, stop_pieces, too_long};
 
+pub mod area;
+
 use list::Refusal;
 use output::Output;
 
@@ -24,21 +26,25 @@ pub fn is_too_long(bytes: &[u8]) -> bool
 pub fn put_end<const N: usize>(out: &mut Output<N>, offset: usize)
     ensures { Output·output out.new.buffer out.new.used ≡ puts (Output·output out.old.buffer out.old.used) (end_pieces offset) }
 {
-    out.put_line(b"end ", offset as u64);
+    out.used = area::put_end(&mut out.buffer, out.used, offset);
 }
 
 // `stop 21 at 112 depth 0`
 pub fn put_stop<const N: usize>(out: &mut Output<N>, refusal: Refusal)
     ensures { Output·output out.new.buffer out.new.used ≡ puts (Output·output out.old.buffer out.old.used) (stop_pieces (refusal_of refusal)) }
 {
-    out.put_number(b"stop ", refusal.error.number() as u64);
-    out.put_number(b" at ", refusal.offset as u64);
-    out.put_line(b" depth ", refusal.depth as u64);
+    out.used = area::put_stop(
+        &mut out.buffer,
+        out.used,
+        refusal.error.number(),
+        refusal.offset,
+        refusal.depth,
+    );
 }
 
 // `too long`
 pub fn put_too_long<const N: usize>(out: &mut Output<N>)
     ensures { Output·output out.new.buffer out.new.used ≡ put (Output·output out.old.buffer out.old.used) too_long }
 {
-    out.put(b"too long\n");
+    out.used = area::put_too_long(&mut out.buffer, out.used);
 }

@@ -17,7 +17,8 @@ fn minus_bits(read: Word) -> Option<Word>
         return None;
     }
     Some(Word {
-        bits: read.bits.wrapping_neg(),
+        // The library's `wrapping_neg` is a sum that wraps, and none does here.
+        bits: (0x1_0000_0000 - u64::from(read.bits)) as u32,
         count: read.count + 1,
     })
 }

@@ -51,7 +51,10 @@ number_past width s at h = rw (drop_of_length-le s h) (nothing width)
     nothing zero = refl
     nothing (suc width) = refl
 
--- a number of four bytes, taken apart
+-- a number of two, four or eight bytes, taken apart
+pub number-2 : (s : List ℕ) (at : ℕ) → number_at 2 s at ≡ get_or s at 0 + 256 * get_or s (at + 1) 0
+number-2 s at = omega (arith, number_step 1 s at, number_step 0 s (at + 1))
+
 pub number-4 :
     (s : List ℕ) (at : ℕ)
     → number_at 4 s at ≡ get_or s at 0 + 256 * (get_or s (at + 1) 0 + 256 * (get_or s (at + 2) 0 + 256 * get_or s (at + 3) 0))
@@ -62,6 +65,17 @@ number-4 s at =
     let b = rw two at (number_step 2 s (at + 1)) in
     let c = rw three at (number_step 1 s (at + 2)) in
     omega (arith, a, b, c, number_step 0 s (at + 3))
+
+pub number-8 : (s : List ℕ) (at : ℕ) → number_at 8 s at ≡ number_at 4 s at + 4294967296 * number_at 4 s (at + 4)
+number-8 s at =
+    let two : at + 1 + 1 ≡ at + 2 = omega arith in
+    let three : at + 2 + 1 ≡ at + 3 = omega arith in
+    let four : at + 3 + 1 ≡ at + 4 = omega arith in
+    let a = number_step 7 s at in
+    let b = rw two at (number_step 6 s (at + 1)) in
+    let c = rw three at (number_step 5 s (at + 2)) in
+    let d = rw four at (number_step 4 s (at + 3)) in
+    omega (arith, a, b, c, d, number-4 s at)
 
 -- the number of a part that is as long as the number
 pub part-number : (width n : ℕ) (s : List ℕ) (at : ℕ) → n ≡ width → number_at width (take n (drop at s)) 0 ≡ number_at width s at

@@ -119,7 +119,10 @@ fn copy_few(dst: &mut [u8], src: &[u8])
         copy_ends(dst, src, 2);
         return;
     }
-    copy_block(dst, src);
+    // At most one byte: a move of memory would be a call.
+    if src.len() == 1 {
+        dst[0] = src[0];
+    }
 }
 
 // The first n bytes and the last n, which are all of them.

@@ -6,15 +6,15 @@ use Rattle.hub.proofs.read_parameter.Goals as goal
 
 pub overflow_cast-socket : goal.overflow_cast-socket
 overflow_cast-socket c =
-    let told = c.in_ok-admit.was in
+    let told = c.in-Ok.is in
     record { fits = socket-byte _ _ _ c.admit.ensures told }
 
-pub returns : goal.returns
-returns c =
-    let told = c.in_ok-admit.was in
+pub returns-in-Ok : goal.returns-in-Ok
+returns-in-Ok c =
+    let told = c.in-Ok.is in
     read-when _ _ _ c.admit.ensures _ _ told c.read.ensures
 
-pub returns-in_err-admit : goal.returns-in_err-admit
-returns-in_err-admit c =
-    let told = c.in_err-admit.was in
+pub returns-in-Err : goal.returns-in-Err
+returns-in-Err c =
+    let told = c.in-Err.is in
     rw (sym (read-not _ _ _ c.admit.ensures c.args.index told)) (search rules)
